@@ -1,0 +1,4 @@
+pub mod Steps
+pub mod Falls
+pub mod Going
+pub mod Outcome
