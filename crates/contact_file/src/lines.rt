@@ -56,8 +56,8 @@ pub enum Trouble {
 }
 
 impl<'a> Fault<'a> {
-    /// A fault that no word of the line is to blame for.
-    pub fn of(trouble: Trouble) -> Fault<'a> {
+    // a fault that no word of the line is to blame for
+    fn of(trouble: Trouble) -> Fault<'a> {
         Fault { trouble, word: "" }
     }
 }
@@ -79,7 +79,10 @@ pub impl fmt::Display for Fault<'_> as FaultDisplay {
         let word = self.word;
         match self.trouble {
             Trouble::UnknownWord => write!(f, "no line begins with '{word}'"),
-            Trouble::NotServed => write!(f, "'{word}' is for a station, which this program does not have yet"),
+            Trouble::NotServed => write!(
+                f,
+                "'{word}' is for a station, which this program does not have yet"
+            ),
             Trouble::Missing => write!(f, "a number is missing"),
             Trouble::Number => write!(f, "'{word}' is no number that fits here"),
             Trouble::Size => write!(f, "'{word}' is more than {SIZE_LIMIT} words"),
@@ -98,14 +101,20 @@ fn next<'a>(words: &mut std::str::SplitWhitespace<'a>) -> Result<&'a str, Fault<
 fn count<'a>(word: &'a str) -> Result<u32, Fault<'a>> {
     match word.parse::<u32>() {
         Ok(n) => Ok(n),
-        Err(_) => Err(Fault { trouble: Trouble::Number, word }),
+        Err(_) => Err(Fault {
+            trouble: Trouble::Number,
+            word,
+        }),
     }
 }
 
 fn size<'a>(word: &'a str) -> Result<usize, Fault<'a>> {
     let n = count(word)?;
     if n > SIZE_LIMIT {
-        return Err(Fault { trouble: Trouble::Size, word });
+        return Err(Fault {
+            trouble: Trouble::Size,
+            word,
+        });
     }
     Ok(n as usize)
 }
@@ -113,7 +122,10 @@ fn size<'a>(word: &'a str) -> Result<usize, Fault<'a>> {
 fn signed<'a>(word: &'a str) -> Result<i32, Fault<'a>> {
     match word.parse::<i32>() {
         Ok(n) => Ok(n),
-        Err(_) => Err(Fault { trouble: Trouble::Number, word }),
+        Err(_) => Err(Fault {
+            trouble: Trouble::Number,
+            word,
+        }),
     }
 }
 
@@ -126,13 +138,21 @@ fn numbers<'a>(heap: Global, words: std::str::SplitWhitespace<'a>) -> Result<Vec
     Ok(list)
 }
 
-fn read_execution<'a>(heap: Global, mut words: std::str::SplitWhitespace<'a>) -> Result<Execution, Fault<'a>> {
+fn read_execution<'a>(
+    heap: Global,
+    mut words: std::str::SplitWhitespace<'a>,
+) -> Result<Execution, Fault<'a>> {
     let turns = count(next(&mut words)?)?;
     let depth = count(next(&mut words)?)?;
     let stack = size(next(&mut words)?)?;
     let page = size(next(&mut words)?)?;
     let inputs = numbers(heap, words)?;
-    Ok(Execution { allowed: Allowance { turns, depth }, stack, page, inputs })
+    Ok(Execution {
+        allowed: Allowance { turns, depth },
+        stack,
+        page,
+        inputs,
+    })
 }
 
 /// Reads one line.
@@ -148,7 +168,13 @@ pub fn read_line<'a>(heap: Global, text: &'a str) -> Result<Line, Fault<'a>> {
         "code" => Ok(Line::Code(numbers(heap, words)?)),
         "words" => Ok(Line::Words(numbers(heap, words)?)),
         "execute" => Ok(Line::Execute(read_execution(heap, words)?)),
-        "function" | "global" | "node" | "load" | "pass" | "packet" | "clear" => Err(Fault { trouble: Trouble::NotServed, word }),
-        _ => Err(Fault { trouble: Trouble::UnknownWord, word }),
+        "function" | "global" | "node" | "load" | "pass" | "packet" | "clear" => Err(Fault {
+            trouble: Trouble::NotServed,
+            word,
+        }),
+        _ => Err(Fault {
+            trouble: Trouble::UnknownWord,
+            word,
+        }),
     }
 }

@@ -24,7 +24,10 @@ struct Collected {
 }
 
 fn nothing(heap: Global) -> Collected {
-    Collected { code: Vec::new(heap), words: Vec::new(heap) }
+    Collected {
+        code: Vec::new(heap),
+        words: Vec::new(heap),
+    }
 }
 
 fn add(list: &mut Vec<i32>, more: Vec<i32>) -> Result<(), AllocError> {
@@ -40,7 +43,11 @@ fn stack_of(heap: Global, size: usize, words: &[i32]) -> Result<Vec<i32>, AllocE
     Ok(stack)
 }
 
-fn print_execution(rt: &LibcRuntime, said: &impl Display, readings: &[i32]) -> Result<(), AnyError> {
+fn print_execution(
+    rt: &LibcRuntime,
+    said: &impl Display,
+    readings: &[i32],
+) -> Result<(), AnyError> {
     let count = readings.len();
     print!(rt, "execute {said} readings {count}")?;
     for reading in readings {
@@ -56,7 +63,13 @@ fn run_code(rt: &LibcRuntime, collected: &Collected, asked: &Execution) -> Resul
     let mut stack = stack_of(heap, asked.stack, words)?;
     let mut page = stack_of(heap, asked.page, &[])?;
     let mut board = TableBoard::over(asked.inputs.as_slice(), page.as_mut_slice());
-    match execute(asked.allowed, collected.code.as_slice(), stack.as_mut_slice(), words.len(), &mut board) {
+    match execute(
+        asked.allowed,
+        collected.code.as_slice(),
+        stack.as_mut_slice(),
+        words.len(),
+        &mut board,
+    ) {
         Ok(answer) => print_execution(rt, &answer, board.readings()),
         Err(refusal) => print_execution(rt, &refusal, board.readings()),
     }

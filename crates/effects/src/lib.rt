@@ -25,13 +25,24 @@ fn past(r: Registers, operands: usize) -> Registers
     requires { ⌜ pos 0 ≤ℤ r .position ⌝ ∗ ⌜ r .position <ℤ pos codeLimit ⌝ ∗ ⌜ operands < 4 ⌝ }
     ensures { λ r2. ⌜ r2 ≡ pastOf r operands ⌝ }
 {
-    Registers { position: r.position + operands as i32 + 1, ..r }
+    Registers {
+        position: r.position + operands as i32 + 1,
+        ..r
+    }
 }
 
 fn jumped(r: Registers, p: i32) -> Registers
     ensures { λ r2. ⌜ r2 ≡ jumpedTo r p ⌝ }
 {
-    Registers { position: p, turns: if p <= r.position { r.turns.saturating_sub(1) } else { r.turns }, ..r }
+    Registers {
+        position: p,
+        turns: if p <= r.position {
+            r.turns.saturating_sub(1)
+        } else {
+            r.turns
+        },
+        ..r
+    }
 }
 
 fn branched(r: Registers, p: i32, taken: bool) -> Registers
@@ -54,19 +65,34 @@ fn entered(r: Registers, p: i32, from: usize) -> Registers
     ensures { λ r2. ⌜ r2 ≡ enteredAt r p from ⌝ }
 {
     let depth = r.depth + 1;
-    Registers { position: p, base: from as i32 + 2, turns: r.turns.saturating_sub(1), depth, deepest: r.deepest.max(depth) }
+    Registers {
+        position: p,
+        base: from as i32 + 2,
+        turns: r.turns.saturating_sub(1),
+        depth,
+        deepest: r.deepest.max(depth),
+    }
 }
 
 fn replaced(r: Registers, p: i32) -> Registers
     ensures { λ r2. ⌜ r2 ≡ replacedBy r p ⌝ }
 {
-    Registers { position: p, turns: r.turns.saturating_sub(1), ..r }
+    Registers {
+        position: p,
+        turns: r.turns.saturating_sub(1),
+        ..r
+    }
 }
 
 fn returned(r: Registers, p: i32, base: i32) -> Registers
     ensures { λ r2. ⌜ r2 ≡ returnedTo r p base ⌝ }
 {
-    Registers { position: p, base, depth: r.depth.saturating_sub(1), ..r }
+    Registers {
+        position: p,
+        base,
+        depth: r.depth.saturating_sub(1),
+        ..r
+    }
 }
 
 fn truth(b: bool) -> i32
@@ -133,7 +159,7 @@ fn raise(stack: &mut Stack<i32>, x: i32)
     ensures lender { λ _. ⌜ name (now (stack .exit) .slots) ≡ name (now (stack .entry) .slots) ⌝ }
 {
     if x < 0 {
-        let used = stack.len();
+        let used = stack.used;
         stack.resize(used - lowered(x));
     } else {
         stack.grow(raised(x), 0);
@@ -160,7 +186,7 @@ fn load_args<B: Board>(stack: &mut Stack<i32>, board: &B, count: usize)
     ensures used { λ _. ⌜ now (stack .exit) .used ≡ now (stack .entry) .used + count ⌝ }
     ensures lender { λ _. ⌜ name (now (stack .exit) .slots) ≡ name (now (stack .entry) .slots) ⌝ }
 {
-    let used = stack.len();
+    let used = stack.used;
     for n in 0..count {
         let v = input_or_zero(board, n);
         stack.replace(used + n, v);
@@ -170,7 +196,12 @@ fn load_args<B: Board>(stack: &mut Stack<i32>, board: &B, count: usize)
 
 /// Carries out an instruction that may go, and answers the registers after it. Only a full page may
 /// still end the run, and then nothing has changed.
-pub fn perform<B: Board>(o: Instruction, v: View, stack: &mut Stack<i32>, board: &mut B) -> Result<Registers, Ending>
+pub fn perform<B: Board>(
+    o: Instruction,
+    v: View,
+    stack: &mut Stack<i32>,
+    board: &mut B,
+) -> Result<Registers, Ending>
     requires low { ⌜ pos 0 ≤ℤ v .registers .position ⌝ }
     requires high { ⌜ v .registers .position <ℤ pos codeLimit ⌝ }
     requires deepest { ⌜ v .deepest ≤ depthLimit ⌝ }

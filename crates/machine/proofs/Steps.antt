@@ -137,7 +137,7 @@ module _ (t : Setup) (s : State) (number : ℤ) (u : among (s .registers .positi
       → Tells (performed o v (seen-by v s)) res (seen-by v s) left → Tells (step t s) res s left
   step-ok v q o res left =
       subst (λ (w : View). Ok o ≡ decided (decode number) w → Tells (performed o w (seen-by w s)) res (seen-by w s) left → Tells (step t s) res s left)
-        (sym q) (step-at o res left)
+      (sym q) (step-at o res left)
 
   pub step-err : (v : View) → v ≡ view t s → (c : Ending) → Err c ≡ decided (decode number) v → step t s ≡ halts c
   step-err v q c d = inside t s number u p ∙ acted-err (decode number) c (view t s) s (d ∙ ap (λ (w : View). decided (decode number) w) q)

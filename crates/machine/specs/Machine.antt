@@ -29,17 +29,18 @@ fromTop ws used k = cond (ltb used k) (pos 0) (getD ws (used - k) (pos 0))
 -- what the instruction at a position in the code sees
 abbrev pub viewed : List ℤ → ℕ → ℕ → List ℤ → ℕ → Registers → View
 viewed code inputs deepest ws used r = record {
-    left = length code - natAbs (r .position) - 1;
-    x = getD code (natAbs (r .position) + 1) (pos 0);
-    y = getD code (natAbs (r .position) + 2) (pos 0);
-    z = getD code (natAbs (r .position) + 3) (pos 0);
-    used = used;
-    capacity = length ws;
-    top = fromTop ws used 1;
-    second = fromTop ws used 2;
-    inputs = inputs;
-    deepest = deepest;
-    registers = r }
+  left = length code - natAbs (r .position) - 1;
+  x = getD code (natAbs (r .position) + 1) (pos 0);
+  y = getD code (natAbs (r .position) + 2) (pos 0);
+  z = getD code (natAbs (r .position) + 3) (pos 0);
+  used = used;
+  capacity = length ws;
+  top = fromTop ws used 1;
+  second = fromTop ws used 2;
+  inputs = inputs;
+  deepest = deepest;
+  registers = r;
+}
 
 abbrev pub view : Setup → State → View
 view t s = viewed (t .code) (length (s .board .inputs)) (t .deepest) (s .words) (s .used) (s .registers)

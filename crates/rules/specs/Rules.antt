@@ -119,17 +119,19 @@ rule IfZero v = owning 1 1 (cond (isZero (v .top)) (jumps v) None)
 rule IfNzro v = owning 1 1 (cond (isZero (v .top)) None (jumps v))
 rule Call v = record { operands = 2; negative = ltZ (v .x) (pos 0); takes = natAbs (v .x); own = calls v; puts = words 2 }
 rule Tcall v = record {
-    operands = 3;
-    negative = eitherNegative (v .x) (v .y);
-    takes = framed (v .x) (v .y);
-    own = cond (eqb (v .registers .turns) 0) (Some NoTurnLeft) None;
-    puts = words 0 }
+  operands = 3;
+  negative = eitherNegative (v .x) (v .y);
+  takes = framed (v .x) (v .y);
+  own = cond (eqb (v .registers .turns) 0) (Some NoTurnLeft) None;
+  puts = words 0;
+}
 rule Ret v = record {
-    operands = 1;
-    negative = ltZ (v .x) (pos 0);
-    takes = natAbs (v .x) + 3;
-    own = cond (eqb (v .registers .depth) 0) (Some NoCaller) None;
-    puts = words 0 }
+  operands = 1;
+  negative = ltZ (v .x) (pos 0);
+  takes = natAbs (v .x) + 3;
+  own = cond (eqb (v .registers .depth) 0) (Some NoCaller) None;
+  puts = words 0;
+}
 rule Printi v = record { operands = 0; negative = false; takes = 1; own = None; puts = reading }
 rule LdArgs v = plain 0 0 (v .inputs)
 rule Stop v = owning 0 0 (Some Finished)

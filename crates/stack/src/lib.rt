@@ -4,7 +4,7 @@
 // afterwards, beside the number of entries in use. Every operation also keeps the loan, so that the
 // lender of the slice can say what it holds when the store is gone.
 //
-// `over`, `len`, `capacity`, `top`, `push` and `pop` ask nothing. The others ask for the room that
+// `over`, `capacity`, `top`, `push`, `pop` and `resize` ask nothing. The others ask for the room that
 // they use: they are for a caller that has made its own tests, in its own order.
 ghost use mathlib.Core.Path.{_≡_};
 ghost use mathlib.Core.Bool.{cond};
@@ -30,13 +30,6 @@ impl<'a, T: Copy> Stack<'a, T> {
         ensures lender { λ r. ⌜ name (r .slots) ≡ name (slots .entry) ⌝ }
     {
         Stack { slots, used: 0 }
-    }
-
-    /// How many entries are in use.
-    pub fn len(&self) -> usize
-        ensures { λ r. ⌜ r ≡ now (self .entry) .used ⌝ }
-    {
-        self.used
     }
 
     /// How many entries there is room for.

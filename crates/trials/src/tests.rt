@@ -36,7 +36,7 @@ fn a_store_of_words_keeps_what_is_popped() -> Result<(), Fail> {
         check(store.push(8))?;
         check_eq(store.pop(), Some(8))?;
         check_eq(store.top(), Some(7))?;
-        check_eq(store.len(), 1)?;
+        check_eq(store.used, 1)?;
         check_eq(store.capacity(), 3)?;
     }
     check_eq(words, [7, 8, 3])
@@ -82,19 +82,54 @@ struct Case {
 fn the_whole_stack_is_as_the_model_leaves_it() -> Result<(), Fail> {
     let cases = [
         // words above those in use stay; a popped word stays until it is overwritten
-        Case { code: [0, 5, 0, 6, 15, -2, 25, 0, 0], stack: [4, 5, 6, 7, 7, 7], ending: Ending::Finished, place: 6 },
+        Case {
+            code: [0, 5, 0, 6, 15, -2, 25, 0, 0],
+            stack: [4, 5, 6, 7, 7, 7],
+            ending: Ending::Finished,
+            place: 6,
+        },
         // STI writes the address' slot too, and the value's own slot stays as it was
-        Case { code: [0, 0, 0, 6, 12, 25, 0, 0, 0], stack: [6, 6, 6, 7, 7, 7], ending: Ending::Finished, place: 5 },
+        Case {
+            code: [0, 0, 0, 6, 12, 25, 0, 0, 0],
+            stack: [6, 6, 6, 7, 7, 7],
+            ending: Ending::Finished,
+            place: 5,
+        },
         // a call moves its argument up over two link words: the position behind it, and the base
-        Case { code: [19, 1, 3, 23, 0, 0, 0, 0, 0], stack: [3, 0, 4, 7, 7, 7], ending: Ending::UnknownInstruction, place: 3 },
+        Case {
+            code: [19, 1, 3, 23, 0, 0, 0, 0, 0],
+            stack: [3, 0, 4, 7, 7, 7],
+            ending: Ending::UnknownInstruction,
+            place: 3,
+        },
         // a return puts its value where the link was, and the rest stays
-        Case { code: [19, 1, 4, 25, 0, 8, 21, 1, 0], stack: [8, 0, 4, 8, 7, 7], ending: Ending::Finished, place: 3 },
+        Case {
+            code: [19, 1, 4, 25, 0, 8, 21, 1, 0],
+            stack: [8, 0, 4, 8, 7, 7],
+            ending: Ending::Finished,
+            place: 3,
+        },
         // a replacing call moves its argument down over a local
-        Case { code: [0, 9, 9, 14, 20, 1, 1, 8, 23], stack: [4, 9, 2, 2, 7, 7], ending: Ending::UnknownInstruction, place: 8 },
+        Case {
+            code: [0, 9, 9, 14, 20, 1, 1, 8, 23],
+            stack: [4, 9, 2, 2, 7, 7],
+            ending: Ending::UnknownInstruction,
+            place: 8,
+        },
         // INCSP writes zeros
-        Case { code: [15, 3, 23, 0, 0, 0, 0, 0, 0], stack: [4, 0, 0, 0, 7, 7], ending: Ending::UnknownInstruction, place: 2 },
+        Case {
+            code: [15, 3, 23, 0, 0, 0, 0, 0, 0],
+            stack: [4, 0, 0, 0, 7, 7],
+            ending: Ending::UnknownInstruction,
+            place: 2,
+        },
         // an instruction that ends the run changes nothing
-        Case { code: [15, 6, 25, 0, 0, 0, 0, 0, 0], stack: [4, 7, 7, 7, 7, 7], ending: Ending::StackFull, place: 0 },
+        Case {
+            code: [15, 6, 25, 0, 0, 0, 0, 0, 0],
+            stack: [4, 7, 7, 7, 7, 7],
+            ending: Ending::StackFull,
+            place: 0,
+        },
     ];
     for case in cases.iter() {
         let mut stack = [4, 7, 7, 7, 7, 7];
@@ -118,7 +153,13 @@ fn a_refused_execute_changes_nothing() -> Result<(), Fail> {
     let mut stack = [1, 2];
     let mut page = [3];
     let mut board = TableBoard::over(&[], &mut page);
-    match execute(Allowance { turns: 1, depth: 1 }, &[0, 9, 22], &mut stack, 3, &mut board) {
+    match execute(
+        Allowance { turns: 1, depth: 1 },
+        &[0, 9, 22],
+        &mut stack,
+        3,
+        &mut board,
+    ) {
         Ok(_) => return Err(Fail::new("not refused")),
         Err(refusal) => {
             check_eq(refusal.reason, Reason::Sizes)?;

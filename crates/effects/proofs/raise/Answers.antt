@@ -19,4 +19,5 @@ returns-then-x-lt0 c =
       slots = c .resize .ensures .slots ∙ paste-lower _ _ (c .args .x) h;
       length = ap length (c .resize .ensures .slots);
       used = c .resize .ensures .used ∙ omega arith;
-      lender = c .resize .ensures .lender }
+      lender = c .resize .ensures .lender;
+    }

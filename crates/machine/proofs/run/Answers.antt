@@ -32,4 +32,5 @@ returns-in-Err g c =
       within = e .within;
       length = e .length ∙ i .1;
       lender = e .lender ∙ i .2;
-      lent = e .lent ∙ i .3 }
+      lent = e .lent ∙ i .3;
+    }

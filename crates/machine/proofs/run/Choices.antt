@@ -15,8 +15,8 @@ Inv-loop-next g l =
     × (b .lent (l .board) ≡ b .lent (l .entry .board))
     × (b .means (l .board) .inputs ≡ b .means (l .entry .board) .inputs)
     × Leads (record { code = l .code; deepest = l .deepest })
-      (record { words = l .entry .stack .slots .now; used = l .entry .stack .used; board = b .means (l .entry .board); registers = l .entry .registers })
-      (record { words = l .stack .slots .now; used = l .stack .used; board = b .means (l .board); registers = l .registers })
+    (record { words = l .entry .stack .slots .now; used = l .entry .stack .used; board = b .means (l .entry .board); registers = l .entry .registers })
+    (record { words = l .stack .slots .now; used = l .stack .used; board = b .means (l .board); registers = l .registers })
 
 abbrev pub μ-loop-next : given.MeasureT-loop-next
 μ-loop-next g l = weight (length (l .code)) (l .registers)

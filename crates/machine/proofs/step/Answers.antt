@@ -40,7 +40,8 @@ perform-requires g c κs =
       used = ap (λ (v : View). v .used) l;
       slots = ap (λ (v : View). v .capacity) l;
       inputs = ap (λ (v : View). v .inputs) l ∙ c .pre .inputs;
-      ready = may-go _ (c .look-view .result) _ (c .in-Ok .ensures tt) }
+      ready = may-go _ (c .look-view .result) _ (c .in-Ok .ensures tt);
+    }
 
 pub returns-in-Ok : need.returns-in-Ok
 returns-in-Ok g c =
@@ -55,9 +56,14 @@ returns-in-Ok g c =
     let e = c .perform .ensures in
     record {
       tells = step-ok t s _ (sym u) p (c .look-view .result) q (c .in-Ok .instruction) (c .perform .result)
-        (λ (r2 : Registers). record { words = c .perform .last .stack .slots .now; used = c .perform .last .stack .used; board = g .B·Board .means (c .perform .last .board); registers = r2 })
-        (c .in-Ok .ensures tt) (e .tells);
-      within = e .within; length = e .length; lender = e .lender; lent = e .lent; inputs = e .inputs }
+          (λ (r2 : Registers). record { words = c .perform .last .stack .slots .now; used = c .perform .last .stack .used; board = g .B·Board .means (c .perform .last .board); registers = r2 })
+          (c .in-Ok .ensures tt) (e .tells);
+      within = e .within;
+      length = e .length;
+      lender = e .lender;
+      lent = e .lent;
+      inputs = e .inputs;
+    }
 
 pub returns-in-Err : need.returns-in-Err
 returns-in-Err g c =
@@ -71,4 +77,9 @@ returns-in-Err g c =
     let q = c .look-view .ensures ∙ ap (λ (n : ℕ). viewed (c .args .code .now) n (c .args .deepest) (c .args .stack .now .slots .now) (c .args .stack .now .used) (c .args .r)) (c .pre .inputs) in
     record {
       tells = (step-err t s _ (sym u) p (c .look-view .result) q _ (c .in-Err .ensures tt), refl);
-      within = c .pre .used; length = refl; lender = refl; lent = refl; inputs = refl }
+      within = c .pre .used;
+      length = refl;
+      lender = refl;
+      lent = refl;
+      inputs = refl;
+    }
