@@ -30,6 +30,9 @@ pub record State : Type 0 where
   pub board : Means
   pub registers : Registers
 
+abbrev pub state : List ℤ → ℕ → Means → Registers → State
+state ws used board r = record { words = ws; used = used; board = board; registers = r }
+
 -- what comes of an instruction: the run goes on in another state, or ends and nothing has changed
 pub data Next : Type 0 where
   goes : State → Next

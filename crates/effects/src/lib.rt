@@ -9,7 +9,7 @@ ghost use denote.Ref.{name};
 ghost use Rattle.std.specs.shelf.Lists.{paste};
 ghost use Rattle.rules.specs.Limits.{codeLimit, depthLimit, stackLimit};
 ghost use Rattle.rules.specs.Rules.{among as amongFirst, isZero as zeroWord, up, down, rule, Ready};
-ghost use Rattle.effects.specs.Effects.{State, performed, Tells, quotient as cutQuotient, truth as truthOf, same as sameWord};
+ghost use Rattle.effects.specs.Effects.{state, performed, Tells, quotient as cutQuotient, truth as truthOf, same as sameWord};
 ghost use Rattle.effects.specs.Effects.{past as pastOf, jumped as jumpedTo, branched as branchedTo, entered as enteredAt, replaced as replacedBy, returned as returnedTo};
 use answer::Ending;
 use board::Board;
@@ -212,9 +212,9 @@ pub fn perform<B: Board>(
     requires inputs { ⌜ v .inputs ≡ length (means (now board) .inputs) ⌝ }
     requires ready { ⌜ Ready (rule o v) v ⌝ }
     ensures tells { λ res. ⌜ Tells
-        (performed o v (record { words = now (now (stack .entry) .slots); used = now (stack .entry) .used; board = means (now (board .entry)); registers = v .registers }))
-        res (record { words = now (now (stack .entry) .slots); used = now (stack .entry) .used; board = means (now (board .entry)); registers = v .registers })
-        (λ r2. record { words = now (now (stack .exit) .slots); used = now (stack .exit) .used; board = means (now (board .exit)); registers = r2 }) ⌝ }
+        (performed o v (state (now (now (stack .entry) .slots)) (now (stack .entry) .used) (means (now (board .entry))) (v .registers)))
+        res (state (now (now (stack .entry) .slots)) (now (stack .entry) .used) (means (now (board .entry))) (v .registers))
+        (λ r2. state (now (now (stack .exit) .slots)) (now (stack .exit) .used) (means (now (board .exit))) r2) ⌝ }
     ensures within { λ _. ⌜ now (stack .exit) .used ≤ length (now (now (stack .exit) .slots)) ⌝ }
     ensures length { λ _. ⌜ length (now (now (stack .exit) .slots)) ≡ length (now (now (stack .entry) .slots)) ⌝ }
     ensures lender { λ _. ⌜ name (now (stack .exit) .slots) ≡ name (now (stack .entry) .slots) ⌝ }

@@ -19,7 +19,7 @@ use Rattle.stack.specs.Entries.{topOf}
 use Rattle.board.specs.Meaning.{Means}
 use Rattle.rules.specs.declared.Registers.{Registers}
 use Rattle.rules.specs.Limits.{codeLimit, turnsLimit, depthLimit, stackLimit}
-use Rattle.effects.specs.Effects.{State}
+use Rattle.effects.specs.Effects.{State, state}
 use Rattle.machine.specs.declared.Allowance.{Allowance}
 use Rattle.machine.specs.Machine.{Setup, Ends}
 
@@ -40,7 +40,7 @@ fresh turns = record { position = pos 0; base = pos 0; turns = turns; depth = 0;
 
 -- the state in which loose code starts, its starting words at the front of the stack
 abbrev pub starting : List ℤ → ℕ → Means → ℕ → State
-starting ws used board turns = record { words = ws; used = used; board = board; registers = fresh turns }
+starting ws used board turns = state ws used board (fresh turns)
 
 -- the value of a run: of a finished one its top word, 0 if there is none; of any other 0
 abbrev pub valueOf : Ending → List ℤ → ℕ → ℤ
