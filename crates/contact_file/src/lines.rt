@@ -1,5 +1,7 @@
 // One line of a contact file, read.
 use machine::Allowance;
+use script::Function;
+use script::Node;
 use std::alloc::AllocError;
 use std::alloc::Global;
 use std::alloc::Refused;
@@ -19,6 +21,14 @@ pub enum Line {
     /// More starting words.
     Words(Vec<i32>),
     Execute(Execution),
+    /// One more function of the tables.
+    Function(Function),
+    /// One more global, of this length.
+    Global(u8),
+    /// One more node of the tables.
+    Node(Node),
+    /// The tables are complete.
+    Load,
 }
 
 /// What loose code is executed with.
@@ -51,6 +61,8 @@ pub enum Trouble {
     Number,
     /// A size over the limit.
     Size,
+    /// A word behind the last that the line can have.
+    TooMany,
     /// There is no memory for what the line holds.
     Memory,
 }
@@ -86,6 +98,7 @@ pub impl fmt::Display for Fault<'_> as FaultDisplay {
             Trouble::Missing => write!(f, "a number is missing"),
             Trouble::Number => write!(f, "'{word}' is no number that fits here"),
             Trouble::Size => write!(f, "'{word}' is more than {SIZE_LIMIT} words"),
+            Trouble::TooMany => write!(f, "'{word}' is one word too many"),
             Trouble::Memory => write!(f, "no memory is left"),
         }
     }
@@ -117,6 +130,26 @@ fn size<'a>(word: &'a str) -> Result<usize, Fault<'a>> {
         });
     }
     Ok(n as usize)
+}
+
+fn short<'a>(word: &'a str) -> Result<u16, Fault<'a>> {
+    match word.parse::<u16>() {
+        Ok(n) => Ok(n),
+        Err(_) => Err(Fault {
+            trouble: Trouble::Number,
+            word,
+        }),
+    }
+}
+
+fn byte<'a>(word: &'a str) -> Result<u8, Fault<'a>> {
+    match word.parse::<u8>() {
+        Ok(n) => Ok(n),
+        Err(_) => Err(Fault {
+            trouble: Trouble::Number,
+            word,
+        }),
+    }
 }
 
 fn signed<'a>(word: &'a str) -> Result<i32, Fault<'a>> {
@@ -155,6 +188,57 @@ fn read_execution<'a>(
     })
 }
 
+// a field that may be left out
+fn field<'a>(words: &mut std::str::SplitWhitespace<'a>) -> Result<i32, Fault<'a>> {
+    match words.next() {
+        Some(word) => signed(word),
+        None => Ok(0),
+    }
+}
+
+fn end<'a>(mut words: std::str::SplitWhitespace<'a>) -> Result<(), Fault<'a>> {
+    match words.next() {
+        Some(word) => Err(Fault {
+            trouble: Trouble::TooMany,
+            word,
+        }),
+        None => Ok(()),
+    }
+}
+
+fn read_function<'a>(mut words: std::str::SplitWhitespace<'a>) -> Result<Function, Fault<'a>> {
+    let parameters = short(next(&mut words)?)?;
+    let locals = short(next(&mut words)?)?;
+    let body = short(next(&mut words)?)?;
+    end(words)?;
+    Ok(Function {
+        parameters,
+        locals,
+        body,
+        entry: 0,
+    })
+}
+
+fn read_global<'a>(mut words: std::str::SplitWhitespace<'a>) -> Result<u8, Fault<'a>> {
+    let length = byte(next(&mut words)?)?;
+    end(words)?;
+    Ok(length)
+}
+
+fn read_node<'a>(mut words: std::str::SplitWhitespace<'a>) -> Result<Node, Fault<'a>> {
+    let kind = byte(next(&mut words)?)?;
+    let a = field(&mut words)?;
+    let b = field(&mut words)?;
+    let c = field(&mut words)?;
+    end(words)?;
+    Ok(Node { kind, a, b, c })
+}
+
+fn read_load<'a>(words: std::str::SplitWhitespace<'a>) -> Result<Line, Fault<'a>> {
+    end(words)?;
+    Ok(Line::Load)
+}
+
 /// Reads one line.
 pub fn read_line<'a>(heap: Global, text: &'a str) -> Result<Line, Fault<'a>> {
     if text.starts_with('#') {
@@ -168,7 +252,11 @@ pub fn read_line<'a>(heap: Global, text: &'a str) -> Result<Line, Fault<'a>> {
         "code" => Ok(Line::Code(numbers(heap, words)?)),
         "words" => Ok(Line::Words(numbers(heap, words)?)),
         "execute" => Ok(Line::Execute(read_execution(heap, words)?)),
-        "function" | "global" | "node" | "load" | "pass" | "packet" | "clear" => Err(Fault {
+        "function" => Ok(Line::Function(read_function(words)?)),
+        "global" => Ok(Line::Global(read_global(words)?)),
+        "node" => Ok(Line::Node(read_node(words)?)),
+        "load" => read_load(words),
+        "pass" | "packet" | "clear" => Err(Fault {
             trouble: Trouble::NotServed,
             word,
         }),

@@ -9,6 +9,9 @@ use answer::RefusalDisplay;
 use board::TableBoard;
 use board::TableBoardBoard;
 use machine::execute;
+use script::Function;
+use script::Node;
+use script::check;
 use std::alloc::AllocError;
 use std::alloc::Global;
 use std::error::AnyError;
@@ -18,15 +21,31 @@ use std::io::BufReader;
 
 // what was collected for the next execute
 #[derive(Drop)]
-struct Collected {
+struct Loose {
     code: Vec<i32>,
     words: Vec<i32>,
 }
 
-fn nothing(heap: Global) -> Collected {
-    Collected {
+// the tables that were collected for the next load
+#[derive(Drop)]
+struct Tables {
+    functions: Vec<Function>,
+    globals: Vec<u8>,
+    nodes: Vec<Node>,
+}
+
+fn no_code(heap: Global) -> Loose {
+    Loose {
         code: Vec::new(heap),
         words: Vec::new(heap),
+    }
+}
+
+fn no_tables(heap: Global) -> Tables {
+    Tables {
+        functions: Vec::new(heap),
+        globals: Vec::new(heap),
+        nodes: Vec::new(heap),
     }
 }
 
@@ -57,15 +76,15 @@ fn print_execution(
     Ok(())
 }
 
-fn run_code(rt: &LibcRuntime, collected: &Collected, asked: &Execution) -> Result<(), AnyError> {
+fn run_code(rt: &LibcRuntime, loose: &Loose, asked: &Execution) -> Result<(), AnyError> {
     let heap = rt.alloc();
-    let words = collected.words.as_slice();
+    let words = loose.words.as_slice();
     let mut stack = stack_of(heap, asked.stack, words)?;
     let mut page = stack_of(heap, asked.page, &[])?;
     let mut board = TableBoard::over(asked.inputs.as_slice(), page.as_mut_slice());
     match execute(
         asked.allowed,
-        collected.code.as_slice(),
+        loose.code.as_slice(),
         stack.as_mut_slice(),
         words.len(),
         &mut board,
@@ -73,6 +92,18 @@ fn run_code(rt: &LibcRuntime, collected: &Collected, asked: &Execution) -> Resul
         Ok(answer) => print_execution(rt, &answer, board.readings()),
         Err(refusal) => print_execution(rt, &refusal, board.readings()),
     }
+}
+
+fn check_tables(rt: &LibcRuntime, tables: &Tables) -> Result<(), AnyError> {
+    match check(
+        tables.functions.as_slice(),
+        tables.globals.as_slice(),
+        tables.nodes.as_slice(),
+    ) {
+        Ok(()) => println!(rt, "load checked")?,
+        Err(refusal) => println!(rt, "load {refusal}")?,
+    }
+    Ok(())
 }
 
 // what is wrong, with the number of the line
@@ -83,7 +114,8 @@ fn at_line<'a>(heap: Global, number: u64, fault: Fault<'a>) -> Result<(), AnyErr
 /// Plays the contact file on standard input. A line that cannot be read ends it.
 pub fn play(rt: &LibcRuntime) -> Result<(), AnyError> {
     let heap = rt.alloc();
-    let mut collected = nothing(heap);
+    let mut loose = no_code(heap);
+    let mut tables = no_tables(heap);
     let mut number: u64 = 0;
     for line in BufReader::new(rt.stdin()).lines(heap) {
         let text = line?;
@@ -91,11 +123,18 @@ pub fn play(rt: &LibcRuntime) -> Result<(), AnyError> {
         match read_line(heap, text.as_str()) {
             Ok(Line::Comment) => rt.println(text.as_str())?,
             Ok(Line::Blank) => {}
-            Ok(Line::Code(more)) => add(&mut collected.code, more)?,
-            Ok(Line::Words(more)) => add(&mut collected.words, more)?,
+            Ok(Line::Code(more)) => add(&mut loose.code, more)?,
+            Ok(Line::Words(more)) => add(&mut loose.words, more)?,
             Ok(Line::Execute(asked)) => {
-                run_code(rt, &collected, &asked)?;
-                collected = nothing(heap);
+                run_code(rt, &loose, &asked)?;
+                loose = no_code(heap);
+            }
+            Ok(Line::Function(function)) => tables.functions.push(function)?,
+            Ok(Line::Global(length)) => tables.globals.push(length)?,
+            Ok(Line::Node(node)) => tables.nodes.push(node)?,
+            Ok(Line::Load) => {
+                check_tables(rt, &tables)?;
+                tables = no_tables(heap);
             }
             Err(fault) => at_line(heap, number, fault)?,
         }

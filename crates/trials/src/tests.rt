@@ -184,6 +184,24 @@ fn lines_are_read(rt: LibcRuntime) -> Result<(), Fail> {
         return Err(Fail::new("no words"));
     };
     check_eq(words.len(), 0)?;
+    let Ok(Line::Node(node)) = read_line(heap, "node 255 -7 8") else {
+        return Err(Fail::new("no node"));
+    };
+    check_eq((node.kind, node.a, node.b, node.c), (255, -7, 8, 0))?;
+    let Ok(Line::Function(function)) = read_line(heap, "function 8 65535 9") else {
+        return Err(Fail::new("no function"));
+    };
+    check_eq(
+        (
+            function.parameters,
+            function.locals,
+            function.body,
+            function.entry,
+        ),
+        (8, 65_535, 9, 0),
+    )?;
+    check(matches!(read_line(heap, "global 64"), Ok(Line::Global(64))))?;
+    check(matches!(read_line(heap, "load"), Ok(Line::Load)))?;
     let Ok(Line::Execute(asked)) = read_line(heap, "execute 4294967295 33 1000000 7 -1 5") else {
         return Err(Fail::new("no call"));
     };
@@ -200,7 +218,16 @@ fn lines_that_cannot_be_read_are_refused(rt: LibcRuntime) -> Result<(), Fail> {
         ("cod 1", Trouble::UnknownWord),
         (" # a comment begins the line", Trouble::UnknownWord),
         ("pass 1 1 124 0", Trouble::NotServed),
-        ("load", Trouble::NotServed),
+        ("clear", Trouble::NotServed),
+        ("load 1", Trouble::TooMany),
+        ("function 1 2", Trouble::Missing),
+        ("function 1 2 3 4", Trouble::TooMany),
+        ("function 1 2 65536", Trouble::Number),
+        ("global 256", Trouble::Number),
+        ("global 1 1", Trouble::TooMany),
+        ("node", Trouble::Missing),
+        ("node 1 2 3 4 5", Trouble::TooMany),
+        ("node -1", Trouble::Number),
         ("code 2147483648", Trouble::Number),
         ("words 1 x", Trouble::Number),
         ("words 1.5", Trouble::Number),

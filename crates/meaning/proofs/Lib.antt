@@ -1,0 +1,9 @@
+pub mod Onward
+pub mod Follows
+pub mod Paying
+pub mod Twice
+pub mod Runs
+pub mod Enough
+pub mod Decodes
+pub mod Fits
+pub mod Endless

@@ -1,0 +1,4 @@
+pub mod ByteLaws
+pub mod GroupLaws
+pub mod BoardLaws
+pub mod LenderLaws

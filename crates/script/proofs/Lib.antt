@@ -1,0 +1,13 @@
+pub mod EveryLaws
+pub mod LeastLaws
+pub mod FaultLaws
+pub mod FitLaws
+pub mod ShapeLaws
+pub mod NumberingLaws
+pub mod KindLaws
+pub mod NestingLaws
+pub mod ScopeLaws
+pub mod LimitsLaws
+pub mod CountLaws
+pub mod RootLaws
+pub mod SoundLaws

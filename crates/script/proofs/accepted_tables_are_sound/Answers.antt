@@ -1,0 +1,5 @@
+use Rattle.script.proofs.SoundLaws.{sound}
+use Rattle.script.proofs.accepted_tables_are_sound.Needs as need
+
+pub returns : need.returns
+returns c = sound

@@ -1,0 +1,14 @@
+use mathlib.Core.Path.{sym, _∙_}
+use Rattle.script.proofs.LeastLaws.{least-none, least-more}
+use Rattle.script.proofs.FaultLaws.{refused-at}
+use native.Mathlib.Omega.{arith}
+use Rattle.script.proofs.scope.check_scope.Needs as need
+
+pub loop-n-holds : need.loop-n-holds
+loop-n-holds c = least-none _
+
+pub returns-then-is-out-of-scope : need.returns-then-is-out-of-scope
+returns-then-is-out-of-scope c = refused-at _ _ _ _ (c .loop-n .inv) (sym (c .is-out-of-scope .ensures) ∙ c .if-is-out-of-scope .taken) (omega arith)
+
+pub loop-n-again : need.loop-n-again
+loop-n-again c = least-more _ _ (c .loop-n .inv) (sym (c .is-out-of-scope .ensures) ∙ c .if-is-out-of-scope .left)

@@ -1,0 +1,11 @@
+pub mod Limits
+pub mod Kinds
+pub mod Least
+pub mod Shape
+pub mod Uses
+pub mod Fault
+pub mod Numbering
+pub mod Scope
+pub mod Nesting
+pub mod Shaped
+pub mod Sound
