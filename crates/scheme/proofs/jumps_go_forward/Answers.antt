@@ -1,0 +1,5 @@
+use Rattle.scheme.proofs.Scope.{forward}
+use Rattle.scheme.proofs.jumps_go_forward.Needs as need
+
+pub returns : need.returns
+returns c = forward
