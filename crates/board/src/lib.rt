@@ -4,7 +4,9 @@
 ghost use mathlib.Core.Path.{_≡_};
 ghost use mathlib.Core.Bool.{cond};
 ghost use mathlib.Core.List.{List, [], _∷_};
-ghost use lib.ListN.{length, take};
+ghost use Prim.Native.Nat.{ℕ, _≤_};
+ghost use lib.IntN.{ℤ};
+ghost use lib.ListN.{length, take, drop};
 ghost use denote.Ref.{name, now};
 ghost use base.Fml.{GName};
 ghost use Rattle.std.specs.shelf.Maps.{nth};
@@ -19,6 +21,9 @@ pub trait Board {
     /// so the lender can say afterwards what it holds.
     ghost lent: { Self → List GName };
 
+    /// What lies in the lent memory besides the first `k` readings: a print leaves it, once it holds `k` or fewer.
+    ghost beside: { Self → ℕ → List ℤ };
+
     /// How many inputs there are.
     fn count(&self) -> usize
         ensures { λ r. ⌜ r ≡ length (means (now (self .entry)) .inputs) ⌝ };
@@ -31,7 +36,8 @@ pub trait Board {
     fn print(&mut self, v: i32) -> bool
         ensures taken { λ r. ⌜ r ≡ hasRoom (means (now (self .entry))) ⌝ }
         ensures after { λ r. ⌜ means (now (self .exit)) ≡ cond r (printed v (means (now (self .entry)))) (means (now (self .entry))) ⌝ }
-        ensures lent { λ _. ⌜ lent (now (self .exit)) ≡ lent (now (self .entry)) ⌝ };
+        ensures lent { λ _. ⌜ lent (now (self .exit)) ≡ lent (now (self .entry)) ⌝ }
+        ensures beside { λ _. ⌜ ((k : ℕ) → length (means (now (self .exit)) .readings) ≤ k → beside (now (self .exit)) k ≡ beside (now (self .entry)) k) ⌝ };
 }
 
 /// The board over two tables: the words of one are its inputs, the other is its page.
@@ -74,6 +80,8 @@ pub impl Board for TableBoard<'_, '_> as TableBoardBoard {
     ghost means = { λ b. tabled (now (b .inputs)) (now (b .page)) (b .used) };
 
     ghost lent = { λ b. name (b .page) ∷ [] };
+
+    ghost beside = { λ b k. drop k (now (b .page)) };
 
     fn count(&self) -> usize {
         self.inputs.len()

@@ -7,6 +7,7 @@ ghost use lib.Signed.{_≤ℤ_, _<ℤ_, remZ};
 ghost use lib.ListN.{length, getD, replicate};
 ghost use denote.Ref.{name};
 ghost use Rattle.std.specs.shelf.Lists.{paste};
+ghost use Rattle.board.specs.Meaning.{Framed};
 ghost use Rattle.rules.specs.Limits.{codeLimit, depthLimit, stackLimit};
 ghost use Rattle.rules.specs.Rules.{among as amongFirst, isZero as zeroWord, up, down, rule, Ready};
 ghost use Rattle.effects.specs.Effects.{state, performed, Tells, quotient as cutQuotient, truth as truthOf, same as sameWord};
@@ -219,6 +220,7 @@ pub fn perform<B: Board>(
     ensures length { λ _. ⌜ length (now (now (stack .exit) .slots)) ≡ length (now (now (stack .entry) .slots)) ⌝ }
     ensures lender { λ _. ⌜ name (now (stack .exit) .slots) ≡ name (now (stack .entry) .slots) ⌝ }
     ensures lent { λ _. ⌜ lent (now (board .exit)) ≡ lent (now (board .entry)) ⌝ }
+    ensures beside { λ _. ⌜ Framed (means (now (board .entry)) .readings) (means (now (board .exit)) .readings) (beside (now (board .entry))) (beside (now (board .exit))) ⌝ }
     ensures inputs { λ _. ⌜ means (now (board .exit)) .inputs ≡ means (now (board .entry)) .inputs ⌝ }
 {
     match o {

@@ -48,6 +48,8 @@ pub impl<B: Board> Board for TwelveBit<B> as TwelveBitBoard {
 
     ghost lent = { λ b. B·Board .lent (b .below) };
 
+    ghost beside = { λ b. B·Board .beside (b .below) };
+
     fn count(&self) -> usize {
         self.below.count()
     }
@@ -85,6 +87,8 @@ pub impl<B: Board> Board for TwelveBitOver<'_, B> as TwelveBitOverBoard {
 
     ghost lent = { λ b. name (b .below) ∷ B·Board .lent (now (b .below)) };
 
+    ghost beside = { λ b. B·Board .beside (now (b .below)) };
+
     fn count(&self) -> usize {
         self.below.count()
     }
@@ -112,6 +116,8 @@ pub impl<L: Board, R: Board> Board for Either<L, R> as EitherBoard {
     ghost means = { λ b. ofEither (L·Board .means) (R·Board .means) b };
 
     ghost lent = { λ b. ofEither (L·Board .lent) (R·Board .lent) b };
+
+    ghost beside = { λ b. ofEither (L·Board .beside) (R·Board .beside) b };
 
     fn count(&self) -> usize {
         match self {

@@ -2,6 +2,7 @@ use Prim.Native.Nat.{_≤_}
 use mathlib.Core.Path.{_≡_}
 use lib.ListN.{length}
 use denote.Ref.{name}
+use Rattle.board.specs.Meaning.{Framed}
 use Rattle.machine.proofs.Falls.{weight}
 use Rattle.machine.proofs.Going.{Leads}
 use Rattle.machine.proofs.run.Given as given
@@ -14,6 +15,7 @@ Inv-loop-next g l =
     × (name (l .stack .slots) ≡ name (l .entry .stack .slots))
     × (b .lent (l .board) ≡ b .lent (l .entry .board))
     × (b .means (l .board) .inputs ≡ b .means (l .entry .board) .inputs)
+    × Framed (b .means (l .entry .board) .readings) (b .means (l .board) .readings) (b .beside (l .entry .board)) (b .beside (l .board))
     × Leads (record { code = l .code; deepest = l .deepest })
     (record { words = l .entry .stack .slots .now; used = l .entry .stack .used; board = b .means (l .entry .board); registers = l .entry .registers })
     (record { words = l .stack .slots .now; used = l .stack .used; board = b .means (l .board); registers = l .registers })

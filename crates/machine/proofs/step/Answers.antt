@@ -14,6 +14,7 @@ use Rattle.rules.specs.Limits.{codeLimit, depthLimit, stackLimit}
 use Rattle.rules.specs.Rules.{among}
 use Rattle.effects.specs.Effects.{State}
 use Rattle.machine.specs.Machine.{Setup, viewed}
+use Rattle.board.proofs.Frames.{framed-none}
 use Rattle.machine.proofs.Steps.{step-ok, step-err, step-out, may-go, ranged}
 use Rattle.machine.proofs.step.Needs as need
 
@@ -23,7 +24,7 @@ returns-then-not-among g c =
     let s : State = record { words = c .args .stack .now .slots .now; used = c .args .stack .now .used; board = g .B·Board .means (c .args .board .now); registers = c .args .r } in
     let fits : SFits w32 (c .args .r .position) = search needs in
     let u : false ≡ among (c .args .r .position) (length (c .args .code .now)) = simp toZ-ofZ at (c .if-not-among .ensures tt) in
-    record { tells = (step-out t s (sym u), refl); within = c .pre .used; length = refl; lender = refl; lent = refl; inputs = refl }
+    record { tells = (step-out t s (sym u), refl); within = c .pre .used; length = refl; lender = refl; lent = refl; beside = framed-none _ _; inputs = refl }
 
 pub perform-requires : need.perform-requires
 perform-requires g c κs =
@@ -62,6 +63,7 @@ returns-in-Ok g c =
       length = e .length;
       lender = e .lender;
       lent = e .lent;
+      beside = e .beside;
       inputs = e .inputs;
     }
 
@@ -81,5 +83,6 @@ returns-in-Err g c =
       length = refl;
       lender = refl;
       lent = refl;
+      beside = framed-none _ _;
       inputs = refl;
     }
