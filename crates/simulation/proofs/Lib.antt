@@ -1,0 +1,16 @@
+pub mod Words
+pub mod Stack
+pub mod Keep
+pub mod Machine
+pub mod Laws
+pub mod Ways
+pub mod Frames
+pub mod Turns
+pub mod Operators
+pub mod Addresses
+pub mod Expressions
+pub mod Statements
+pub mod Calls
+pub mod Functions
+pub mod Program
+pub mod Room

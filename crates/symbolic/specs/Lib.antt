@@ -1,0 +1,2 @@
+pub mod Symbolic
+pub mod Proper

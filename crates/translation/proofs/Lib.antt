@@ -1,0 +1,12 @@
+pub mod Reading
+pub mod Memory
+pub mod Front
+pub mod Positions
+pub mod Stepping
+pub mod Truths
+pub mod Plainly
+pub mod Sound
+pub mod Jumping
+pub mod Calling
+pub mod Running
+pub mod Whole
