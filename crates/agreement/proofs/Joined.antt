@@ -80,18 +80,21 @@ caused : (P : Code) (cap limit : ℕ) (board : Means) (C : Code) (S : List ℤ) 
 caused P cap limit board C S ρ o (ends k h) = own P cap limit board o k C S ρ h
 
 pub agreement : Agreement
-agreement functions lengths nodes globals board turns depth stack accept constants total fits inputs count turn level deep room front =
+agreement functions lengths nodes globals board stack turns depth h allows =
     let script = scriptOf functions lengths nodes in
     let P = scriptCode script in
     let cap = stackWords depth in
-    let ok = accepted functions lengths nodes accept constants in
-    let words = sound functions lengths nodes accept .limited .words in
+    let ok = accepted functions lengths nodes (h .accepts) (h .constants) in
+    let words = sound functions lengths nodes (h .accepts) .limited .words in
+    let total = h .total in
+    let room = allows .room in
+    let deep = allows .limit in
     let few : length globals ≤ cap = omega arith in
     let long = length-onto globals [] in
     let o = finishOf (outcome script globals board turns depth) in
-    let main = subst (λ (k : ℕ). Known (script .functions) 0 k) (sym count) (ok .main) in
-    let runs = script-runs script globals board turns depth (sum lengths) spareWords cap (ok .proper) main inputs fits total (omega arith) level (omega arith) (omega arith) in
-    let holds = pushed-in-order stack globals (omega arith) .0 front in
+    let main = subst (λ (k : ℕ). Known (script .functions) 0 k) (sym (h .inputs)) (ok .main) in
+    let runs = script-runs script globals board turns depth (sum lengths) spareWords cap (ok .proper) main (h .inputs-fit) (h .globals-fit) total (omega arith) (allows .level) (omega arith) (omega arith) in
+    let holds = pushed-in-order stack globals (omega arith) .0 (h .front) in
     let does = translated script cap depth board stack (onto globals []) (resting board turns) o (ok .distinct) refl (omega arith) room holds runs in
     joined script board turns depth (starting stack (length globals) board turns) (outcome script globals board turns depth) refl
     (caused P cap depth board P (onto globals []) (resting board turns) o runs)

@@ -1,2 +1,3 @@
 pub mod Causes
 pub mod Joined
+pub mod Carrying

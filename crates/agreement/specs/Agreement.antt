@@ -49,11 +49,27 @@ pub record Agreed (code : Written) (board : Means) (depth : ℕ) (start : State)
   pub proper : endingNumber (r .answer .ending) ≤ 5
   pub untouched : drop (stackWords depth) (final .words) ≡ drop (stackWords depth) (start .words)
 
+-- what a run is handed besides its allowance: the tables of an accepted script, globals of its total, a board with as many inputs as main has
+-- parameters, and a stack with the globals at its front; all words fit
+pub record Handed (functions : List Function) (lengths : List ℕ) (nodes : List Node) (globals : List ℤ) (board : Means) (stack : List ℤ) : Type 0 where
+  pub accepts : fault functions lengths nodes ≡ None
+  pub constants : ConstantsFit nodes
+  pub total : length globals ≡ sum lengths
+  pub globals-fit : Fit globals
+  pub inputs-fit : Fit (board .inputs)
+  pub inputs : length (board .inputs) ≡ functionAt functions 0 .parameters
+  pub front : take (length globals) stack ≡ globals
+
+-- an allowance that a run may have on a stack
+pub record Allows (turns depth : ℕ) (stack : List ℤ) : Type 0 where
+  pub turn : 1 ≤ turns
+  pub level : 1 ≤ depth
+  pub limit : depth ≤ depthLimit
+  pub room : stackWords depth ≤ length stack
+
 abbrev pub Agreement : Type 0
 Agreement =
-    (functions : List Function) (lengths : List ℕ) (nodes : List Node) (globals : List ℤ) (board : Means) (turns depth : ℕ) (stack : List ℤ)
-    → fault functions lengths nodes ≡ None → ConstantsFit nodes
-    → length globals ≡ sum lengths → Fit globals → Fit (board .inputs) → length (board .inputs) ≡ functionAt functions 0 .parameters
-    → 1 ≤ turns → 1 ≤ depth → depth ≤ depthLimit → stackWords depth ≤ length stack → take (length globals) stack ≡ globals
+    (functions : List Function) (lengths : List ℕ) (nodes : List Node) (globals : List ℤ) (board : Means) (stack : List ℤ) (turns depth : ℕ)
+    → Handed functions lengths nodes globals board stack → Allows turns depth stack
     → let script = scriptOf functions lengths nodes in
     Agreed (written script) board depth (starting stack (length globals) board turns) (run script globals board turns depth)

@@ -17,7 +17,7 @@ use Rattle.scheme.specs.Writing.{addNOT, andWay, orWay}
 use Rattle.scheme.specs.Scheme.{operatorCode, elementCode, exprCode, argsCode, count}
 use Rattle.symbolic.specs.Symbolic.{Finish, onto}
 use Rattle.symbolic.specs.Proper.{Fit, OkE, OkA}
-use Rattle.simulation.proofs.Keep.{keeps-trans, keeps-cst, keeps-element}
+use Rattle.scheme.proofs.Keep.{keeps-trans, keeps-cst, keeps-element}
 use Rattle.simulation.proofs.Machine.{Machine, Run, Hosts, hosts-tail, hosts-local, hosts-expr}
 use Rattle.simulation.proofs.Words.{fits-flag}
 use Rattle.simulation.proofs.Stack.{fit-getD}

@@ -16,7 +16,7 @@ use Rattle.scheme.specs.Scheme.{stmtCode, zerosCode, bodyCode}
 use Rattle.symbolic.specs.Symbolic.{Rest, Finish, EndsIn, ends, onto, Suffix, same, more}
 use Rattle.symbolic.specs.Proper.{Fit, OkS}
 use Rattle.symbolic.specs.Proper.{frameLimit}
-use Rattle.simulation.proofs.Keep.{keeps-trans, keeps-stmt, keeps-cst, keeps-zeros}
+use Rattle.scheme.proofs.Keep.{keeps-trans, keeps-stmt, keeps-cst, keeps-zeros}
 use Rattle.simulation.proofs.Words.{fits-zero}
 use Rattle.simulation.proofs.Stack.{fit-append, fit-zeros, len-onto, onto-append}
 use Rattle.simulation.proofs.Machine.{Machine, Run, Hosts}

@@ -14,7 +14,7 @@ use Rattle.scheme.specs.Code.{Code, Plain, Target, isLabel, size, View, Front, 
 use Rattle.scheme.specs.Code
 use Rattle.scheme.specs.Writing.{dead, writeGOTO, addGOTO, notBefore, cstBefore, targetOf, labelledOf, target, leftBy, jumpBy}
 use Rattle.symbolic.specs.Symbolic.{same, Rest, Finish, EndsIn, ends, leads, if, plainly}
-use Rattle.simulation.proofs.Keep.{Labelled}
+use Rattle.scheme.specs.Laws.{Labelled}
 use Rattle.simulation.proofs.Machine.{Machine, In, Run, Lands, To, Hosts, level}
 use Rattle.simulation.proofs.Words.{eqZ-true, add-zero, sub-zero, div-one, mul-one}
 

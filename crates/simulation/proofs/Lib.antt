@@ -1,6 +1,5 @@
 pub mod Words
 pub mod Stack
-pub mod Keep
 pub mod Machine
 pub mod Laws
 pub mod Ways

@@ -5,14 +5,19 @@ use native.Mathlib.Omega.{arith}
 use mathlib.Core.Path.{_≡_, sym}
 use mathlib.Core.Logic.{_⊎_, inl, inr, _↔_}
 use mathlib.Core.List.{List, [], _∷_}
-use lib.IntN.{ℤ}
+use lib.IntN.{ℤ, pos}
 use Rattle.board.specs.Meaning.{Means}
 use Rattle.meaning.specs.Tree.{Expr, Stmt}
-use Rattle.scheme.specs.Code.{Code, Target, Item, width, size}
+use Rattle.scheme.specs.Code.{Code, Target, Item, width, size, view}
 use Rattle.scheme.specs.Code
 use Rattle.scheme.specs.Scheme.{localCode, exprCode, stmtCode}
 use Rattle.symbolic.specs.Symbolic.{Suffix, same, more, Rest, Finish, EndsIn, Ends, ends, Goes, goes}
-use Rattle.simulation.proofs.Keep.{Keeps, keeps-trans, keeps-local, keeps-expr, keeps-stmt}
+use Rattle.scheme.specs.Laws.{Keeps}
+use Rattle.scheme.proofs.Keep.{keeps-trans, keeps-same, keeps-more, keeps-cst, keeps-expr, keeps-stmt}
+
+-- the address of a local keeps the labelled ends of what follows it
+keeps-local : (n k : ℕ) (C : Code) → Keeps (localCode n k C) C
+keeps-local n k C = keeps-more _ (keeps-trans {B = Code.plain Code.add n ∷ C} (keeps-cst (pos k) n (view _)) (keeps-more _ (keeps-same C)))
 
 -- the whole code, the words that there are, the depth that is allowed, and the board
 pub record Machine : Type 0 where

@@ -19,7 +19,7 @@ use Rattle.symbolic.specs.Symbolic.{Finish, finished, EndsIn, ends, onto, Suffi
 use Rattle.symbolic.specs.Proper.{Fit, Known, Proper, finishOf}
 use Rattle.symbolic.specs.Proper.{frameLimit}
 use Rattle.simulation.specs.Simulated.{resting, Simulated}
-use Rattle.simulation.proofs.Keep.{keeps-more, keeps-body}
+use Rattle.scheme.proofs.Keep.{keeps-more, keeps-body}
 use Rattle.simulation.proofs.Stack.{len-onto}
 use Rattle.simulation.proofs.Turns.{descend-none, descend-one}
 use Rattle.simulation.proofs.Frames.{After, after-map, after-same}

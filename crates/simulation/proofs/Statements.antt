@@ -15,7 +15,7 @@ use Rattle.scheme.specs.Writing.{dead, addGOTO, target, labelled, leftJump, add
 use Rattle.scheme.specs.Scheme.{exprCode, stmtCode, count}
 use Rattle.symbolic.specs.Symbolic.{Fits, Finish, EndsIn, ends, leads, onto, Suffix, same}
 use Rattle.symbolic.specs.Proper.{Fit, OkE, OkS}
-use Rattle.simulation.proofs.Keep.{keeps-trans, keeps-labelled, keeps-jump, keeps-GOTO}
+use Rattle.scheme.proofs.Keep.{keeps-trans, keeps-labelled, keeps-jump, keeps-GOTO}
 use Rattle.simulation.proofs.Machine.{Machine, Run, Hosts, hosts-tail, hosts-expr, hosts-stmt}
 use Rattle.simulation.proofs.Laws.{ifzero-law, label-law, goto-law, left-law, jump-law, ret-any, tcall-any}
 use Rattle.simulation.proofs.Frames.{After, after-then, after-map, Place, Good, good-more, frame, at, At, Valued, CallRuns}

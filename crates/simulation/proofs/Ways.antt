@@ -10,7 +10,7 @@ use Rattle.scheme.specs.Code.{Code, View, view, front, jumps}
 use Rattle.scheme.specs.Code
 use Rattle.scheme.specs.Writing.{addCST, labelled, leftJump, shortWay, andBefore, orBefore}
 use Rattle.symbolic.specs.Symbolic.{more, Rest, Finish, EndsIn, ends, leads, if}
-use Rattle.simulation.proofs.Keep.{keeps-trans, keeps-cst, keeps-labelled, keeps-jump}
+use Rattle.scheme.proofs.Keep.{keeps-trans, keeps-cst, keeps-labelled, keeps-jump}
 use Rattle.simulation.proofs.Machine.{Machine, In, Run, Lands, To, Hosts}
 use Rattle.simulation.proofs.Laws.{label-law, labels-law, cst-law, left-law, jump-law, ifzero-taken, ifzero-passed, ifnzro-passed, ifnzro-taken}
 
