@@ -8,10 +8,11 @@ use answer::AnswerDisplay;
 use answer::RefusalDisplay;
 use board::TableBoard;
 use board::TableBoardBoard;
+use compiler::Compiler;
 use machine::execute;
+use rules::CODE_LIMIT;
 use script::Function;
 use script::Node;
-use script::check;
 use std::alloc::AllocError;
 use std::alloc::Global;
 use std::error::AnyError;
@@ -94,13 +95,22 @@ fn run_code(rt: &LibcRuntime, loose: &Loose, asked: &Execution) -> Result<(), An
     }
 }
 
-fn check_tables(rt: &LibcRuntime, tables: &Tables) -> Result<(), AnyError> {
-    match check(
-        tables.functions.as_slice(),
+fn load_tables(rt: &LibcRuntime, compiler: &mut Compiler, tables: &Tables) -> Result<(), AnyError> {
+    let functions = tables.functions.as_slice();
+    match compiler.compile(
+        functions,
         tables.globals.as_slice(),
         tables.nodes.as_slice(),
     ) {
-        Ok(()) => println!(rt, "load checked")?,
+        Ok(start) => {
+            let words = CODE_LIMIT.saturating_sub(start);
+            let count = functions.len();
+            print!(rt, "load ok words {words} entries {count}")?;
+            for entry in compiler.entries.iter().take(count) {
+                print!(rt, " {entry}")?;
+            }
+            println!(rt, "")?;
+        }
         Err(refusal) => println!(rt, "load {refusal}")?,
     }
     Ok(())
@@ -116,6 +126,7 @@ pub fn play(rt: &LibcRuntime) -> Result<(), AnyError> {
     let heap = rt.alloc();
     let mut loose = no_code(heap);
     let mut tables = no_tables(heap);
+    let mut compiler = Compiler::new();
     let mut number: u64 = 0;
     for line in BufReader::new(rt.stdin()).lines(heap) {
         let text = line?;
@@ -133,7 +144,7 @@ pub fn play(rt: &LibcRuntime) -> Result<(), AnyError> {
             Ok(Line::Global(length)) => tables.globals.push(length)?,
             Ok(Line::Node(node)) => tables.nodes.push(node)?,
             Ok(Line::Load) => {
-                check_tables(rt, &tables)?;
+                load_tables(rt, &mut compiler, &tables)?;
                 tables = no_tables(heap);
             }
             Err(fault) => at_line(heap, number, fault)?,

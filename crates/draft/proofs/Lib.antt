@@ -1,0 +1,4 @@
+pub mod DraftLaws
+pub mod Widths
+pub mod Putting
+pub mod Tables

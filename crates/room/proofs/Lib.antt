@@ -1,0 +1,4 @@
+pub mod Sums
+pub mod Nodes
+pub mod Enough
+pub mod Depth

@@ -1,0 +1,3 @@
+pub mod EndLaws
+pub mod StmtLaws
+pub mod Stacked
