@@ -1,5 +1,5 @@
 -- The machine on the code of an accepted script does what the script means, under the same allowance.
-use Prim.Native.Nat.{ℕ, _+_, _*_, _≤_}
+use Prim.Native.Nat.{ℕ, _+_, _*_, _^_, _<_, _≤_}
 use mathlib.Core.Path.{_≡_}
 use mathlib.Core.List.{List}
 use lib.IntN.{ℤ, pos, natAbs}
@@ -10,7 +10,6 @@ use Rattle.answer.specs.Numbers.{endingNumber, noPlace}
 use Rattle.answer.specs.declared.Answer.{Answer}
 use Rattle.answer.specs.declared.Ending.the-variants.{Finished}
 use Rattle.board.specs.Meaning.{Means}
-use Rattle.rules.specs.Limits.{depthLimit}
 use Rattle.effects.specs.Effects.{State}
 use Rattle.machine.specs.Machine.{Ends}
 use Rattle.machine.specs.Execute.{starting, answered}
@@ -64,7 +63,8 @@ pub record Handed (functions : List Function) (lengths : List ℕ) (nodes : List
 pub record Allows (turns depth : ℕ) (stack : List ℤ) : Type 0 where
   pub turn : 1 ≤ turns
   pub level : 1 ≤ depth
-  pub limit : depth ≤ depthLimit
+  -- every address on the stack is a word
+  pub limit : stackWords depth < 2 ^ 31
   pub room : stackWords depth ≤ length stack
 
 abbrev pub Agreement : Type 0
