@@ -87,7 +87,7 @@ impl Board for Sheet {
     }
 
     fn print(&mut self, v: i32) -> bool {
-        let room = self.has_room_lem();
+        let room = self.has_room();
         if room {
             self.write(v);
         }

@@ -2,14 +2,14 @@ use Rattle.std.proofs.Common.{rules}
 use Rattle.script.specs.Limits.{within_limits}
 use Rattle.script.proofs.limits.within_limits.Goals as goal
 
-pub returns-then-not-counts-fit : goal.returns-then-not-counts-fit
+pub returns-then-not-counts_fit : goal.returns-then-not-counts_fit
 unfolding within_limits
-returns-then-not-counts-fit c = search rules
+returns-then-not-counts_fit c = search rules
 
-pub returns-then-functions-are : goal.returns-then-functions-are
+pub returns-then-functions_are : goal.returns-then-functions_are
 unfolding within_limits
-returns-then-functions-are c = search rules
+returns-then-functions_are c = search rules
 
-pub returns-else-functions-are : goal.returns-else-functions-are
+pub returns-else-functions_are : goal.returns-else-functions_are
 unfolding within_limits
-returns-else-functions-are c = search rules
+returns-else-functions_are c = search rules

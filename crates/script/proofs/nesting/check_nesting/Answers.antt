@@ -6,8 +6,8 @@ use Rattle.script.proofs.nesting.check_nesting.Goals as goal
 pub loop-n-init : goal.loop-n-init
 loop-n-init c = least_none _
 
-pub returns-then-is-too-deep : goal.returns-then-is-too-deep
-returns-then-is-too-deep c = refused_at _ _ _ _ c.loop-n.invariant (sym c.is-too-deep.ensures ∙ c.if-is-too-deep.true) (omega arith)
+pub returns-then-is_too_deep : goal.returns-then-is_too_deep
+returns-then-is_too_deep c = refused_at _ _ _ _ c.loop-n.invariant (sym c.is_too_deep.ensures ∙ c.if-is_too_deep.true) (omega arith)
 
 pub loop-n-preserved : goal.loop-n-preserved
-loop-n-preserved c = least_more _ _ c.loop-n.invariant (sym c.is-too-deep.ensures ∙ c.if-is-too-deep.false)
+loop-n-preserved c = least_more _ _ c.loop-n.invariant (sym c.is_too_deep.ensures ∙ c.if-is_too_deep.false)

@@ -1,8 +1,8 @@
 use Rattle.std.proofs.Common.{◌+◌, ◌*◌}
 use Rattle.script.proofs.scope.+arguments_in_arguments_of.Given as goal
 
-abbrev pub decreases-arguments-in : goal.decreases-arguments-in
-decreases-arguments-in l = 2 * l.n
+abbrev pub decreases-arguments_in : goal.decreases-arguments_in
+decreases-arguments_in l = 2 * l.n
 
-abbrev pub decreases-arguments-of : goal.decreases-arguments-of
-decreases-arguments-of l = 2 * l.n + 1
+abbrev pub decreases-arguments_of : goal.decreases-arguments_of
+decreases-arguments_of l = 2 * l.n + 1

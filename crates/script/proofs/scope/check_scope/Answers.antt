@@ -6,8 +6,8 @@ use Rattle.script.proofs.scope.check_scope.Goals as goal
 pub loop-n-init : goal.loop-n-init
 loop-n-init c = least_none _
 
-pub returns-then-is-out-of-scope : goal.returns-then-is-out-of-scope
-returns-then-is-out-of-scope c = refused_at _ _ _ _ c.loop-n.invariant (sym c.is-out-of-scope.ensures ∙ c.if-is-out-of-scope.true) (omega arith)
+pub returns-then-is_out_of_scope : goal.returns-then-is_out_of_scope
+returns-then-is_out_of_scope c = refused_at _ _ _ _ c.loop-n.invariant (sym c.is_out_of_scope.ensures ∙ c.if-is_out_of_scope.true) (omega arith)
 
 pub loop-n-preserved : goal.loop-n-preserved
-loop-n-preserved c = least_more _ _ c.loop-n.invariant (sym c.is-out-of-scope.ensures ∙ c.if-is-out-of-scope.false)
+loop-n-preserved c = least_more _ _ c.loop-n.invariant (sym c.is_out_of_scope.ensures ∙ c.if-is_out_of_scope.false)

@@ -4,10 +4,10 @@ use Rattle.script.specs.Scope.{out_of_scope}
 use Rattle.script.proofs.FitLaws.{or_second}
 use Rattle.script.proofs.scope.is_out_of_scope.Goals as goal
 
-pub returns-then-local-missing : goal.returns-then-local-missing
+pub returns-then-local_missing : goal.returns-then-local_missing
 unfolding out_of_scope
-returns-then-local-missing c = c.if-local-missing.true ∙ sym (or_left _ _ (sym c.if-local-missing.ensures))
+returns-then-local_missing c = c.if-local_missing.true ∙ sym (or_left _ _ (sym c.if-local_missing.ensures))
 
-pub returns-else-local-missing : goal.returns-else-local-missing
+pub returns-else-local_missing : goal.returns-else-local_missing
 unfolding out_of_scope
-returns-else-local-missing c = or_second _ _ _ (sym c.if-local-missing.ensures) c.arguments-wrong.ensures
+returns-else-local_missing c = or_second _ _ _ (sym c.if-local_missing.ensures) c.arguments_wrong.ensures

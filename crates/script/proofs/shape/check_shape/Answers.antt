@@ -6,8 +6,8 @@ use Rattle.script.proofs.shape.check_shape.Goals as goal
 pub loop-n-init : goal.loop-n-init
 loop-n-init c = least_none _
 
-pub returns-then-is-misshapen : goal.returns-then-is-misshapen
-returns-then-is-misshapen c = refused_at _ _ _ _ c.loop-n.invariant (sym c.is-misshapen.ensures ∙ c.if-is-misshapen.true) (omega arith)
+pub returns-then-is_misshapen : goal.returns-then-is_misshapen
+returns-then-is_misshapen c = refused_at _ _ _ _ c.loop-n.invariant (sym c.is_misshapen.ensures ∙ c.if-is_misshapen.true) (omega arith)
 
 pub loop-n-preserved : goal.loop-n-preserved
-loop-n-preserved c = least_more _ _ c.loop-n.invariant (sym c.is-misshapen.ensures ∙ c.if-is-misshapen.false)
+loop-n-preserved c = least_more _ _ c.loop-n.invariant (sym c.is_misshapen.ensures ∙ c.if-is_misshapen.false)

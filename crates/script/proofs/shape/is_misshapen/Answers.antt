@@ -8,32 +8,32 @@ pub returns-then-node-gt-RETURN : goal.returns-then-node-gt-RETURN
 unfolding misshapen
 returns-then-node-gt-RETURN c = fails _ _ (lt-leb _ _ c.if-node-gt-RETURN.true)
 
-pub returns-then-not-children-fit : goal.returns-then-not-children-fit
+pub returns-then-not-children_fit : goal.returns-then-not-children_fit
 unfolding misshapen
-returns-then-not-children-fit c =
+returns-then-not-children_fit c =
     passes _ _ _ (le-leb _ _ c.if-node-gt-RETURN.false)
-    (fails _ _ (sym c.if-not-children-fit.ensures))
+    (fails _ _ (sym c.if-not-children_fit.ensures))
 
-pub returns-then-not-named-fits : goal.returns-then-not-named-fits
+pub returns-then-not-named_fits : goal.returns-then-not-named_fits
 unfolding misshapen
-returns-then-not-named-fits c =
+returns-then-not-named_fits c =
     passes _ _ _ (le-leb _ _ c.if-node-gt-RETURN.false)
-    (passes _ _ _ (sym c.if-not-children-fit.ensures)
-    (fails _ _ (sym c.if-not-named-fits.ensures)))
+    (passes _ _ _ (sym c.if-not-children_fit.ensures)
+    (fails _ _ (sym c.if-not-named_fits.ensures)))
 
-pub returns-then-not-number-fits : goal.returns-then-not-number-fits
+pub returns-then-not-number_fits : goal.returns-then-not-number_fits
 unfolding misshapen
-returns-then-not-number-fits c =
+returns-then-not-number_fits c =
     passes _ _ _ (le-leb _ _ c.if-node-gt-RETURN.false)
-    (passes _ _ _ (sym c.if-not-children-fit.ensures)
-    (passes _ _ _ (sym c.if-not-named-fits.ensures)
-    (fails _ _ (sym c.if-not-number-fits.ensures))))
+    (passes _ _ _ (sym c.if-not-children_fit.ensures)
+    (passes _ _ _ (sym c.if-not-named_fits.ensures)
+    (fails _ _ (sym c.if-not-number_fits.ensures))))
 
 pub returns : goal.returns
 unfolding misshapen
 returns c =
     passes _ _ _ (le-leb _ _ c.if-node-gt-RETURN.false)
-    (passes _ _ _ (sym c.if-not-children-fit.ensures)
-    (passes _ _ _ (sym c.if-not-named-fits.ensures)
-    (passes _ _ _ (sym c.if-not-number-fits.ensures)
-    (ap not c.body-fits.ensures))))
+    (passes _ _ _ (sym c.if-not-children_fit.ensures)
+    (passes _ _ _ (sym c.if-not-named_fits.ensures)
+    (passes _ _ _ (sym c.if-not-number_fits.ensures)
+    (ap not c.body_fits.ensures))))

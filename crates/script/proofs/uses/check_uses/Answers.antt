@@ -6,8 +6,8 @@ use Rattle.script.proofs.uses.check_uses.Goals as goal
 pub loop-n-init : goal.loop-n-init
 loop-n-init c = least_none _
 
-pub returns-then-is-misused : goal.returns-then-is-misused
-returns-then-is-misused c = refused_at _ _ _ _ c.loop-n.invariant (sym c.is-misused.ensures ∙ c.if-is-misused.true) (omega arith)
+pub returns-then-is_misused : goal.returns-then-is_misused
+returns-then-is_misused c = refused_at _ _ _ _ c.loop-n.invariant (sym c.is_misused.ensures ∙ c.if-is_misused.true) (omega arith)
 
 pub loop-n-preserved : goal.loop-n-preserved
-loop-n-preserved c = least_more _ _ c.loop-n.invariant (sym c.is-misused.ensures ∙ c.if-is-misused.false)
+loop-n-preserved c = least_more _ _ c.loop-n.invariant (sym c.is_misused.ensures ∙ c.if-is_misused.false)
