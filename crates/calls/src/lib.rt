@@ -63,9 +63,9 @@ fn hand_pass<B: Board>(
     board: &mut B,
 ) -> Result<Answer, Refusal>
     ensures does { (σ : State) → Agrees σ station.old →
-        Does σ (passCall (plain_pass allowed (min words (length stack.old)) (means board.old))) (said_of result) (means board.new).readings station.new }
+        Does σ (passCall (plain_pass allowed (min words (length stack.old)) (B.means board.old))) (said_of result) (B.means board.new).readings station.new }
     ensures beyond { Beyond (stack_words allowed.depth) stack.old stack.new }
-    ensures lent { lent board.new ≡ lent board.old }
+    ensures lent { B.lent board.new ≡ B.lent board.old }
 {
     let long = words.min(stack.len());
     station.pass(allowed, &mut stack[0..long], board)

@@ -160,7 +160,7 @@ fn raise(stack: &mut Stack<i32>, x: i32)
 
 // an input of the board, which has so many
 fn input_or_zero<B: Board>(board: &B, n: usize) -> i32
-    ensures { result ≡ slice_index_or (means board.now).inputs n (pos 0) }
+    ensures { result ≡ slice_index_or (B.means board.now).inputs n (pos 0) }
 {
     let Some(v) = board.input(n) else {
         return 0;
@@ -170,10 +170,10 @@ fn input_or_zero<B: Board>(board: &B, n: usize) -> i32
 
 // LDARGS: the inputs on top, the last of them uppermost
 fn load_args<B: Board>(stack: &mut Stack<i32>, board: &B, count: usize)
-    requires count { count ≡ length (means board.now).inputs }
+    requires count { count ≡ length (B.means board.now).inputs }
     requires used { stack.old.used ≤ length stack.old.slots.now }
     requires room { count ≤ length stack.old.slots.now - stack.old.used }
-    ensures slots { stack.new.slots.now ≡ paste stack.old.slots.now stack.old.used (means board.now).inputs count }
+    ensures slots { stack.new.slots.now ≡ paste stack.old.slots.now stack.old.used (B.means board.now).inputs count }
     ensures length { length stack.new.slots.now ≡ length stack.old.slots.now }
     ensures used { stack.new.used ≡ stack.old.used + count }
     ensures lender { stack.new.slots.ghost_name ≡ stack.old.slots.ghost_name }
@@ -201,18 +201,18 @@ pub fn perform<B: Board>(
     requires within { v.used ≤ v.capacity }
     requires used { v.used ≡ stack.old.used }
     requires slots { v.capacity ≡ length stack.old.slots.now }
-    requires inputs { v.inputs ≡ length (means board.old).inputs }
+    requires inputs { v.inputs ≡ length (B.means board.old).inputs }
     requires ready { Ready (rule o v) v }
     ensures tells { Tells
-        (performed o v (state stack.old.slots.now stack.old.used (means board.old) v.registers))
-        result (state stack.old.slots.now stack.old.used (means board.old) v.registers)
-        (λ r2. state stack.new.slots.now stack.new.used (means board.new) r2) }
+        (performed o v (state stack.old.slots.now stack.old.used (B.means board.old) v.registers))
+        result (state stack.old.slots.now stack.old.used (B.means board.old) v.registers)
+        (λ r2. state stack.new.slots.now stack.new.used (B.means board.new) r2) }
     ensures within { stack.new.used ≤ length stack.new.slots.now }
     ensures length { length stack.new.slots.now ≡ length stack.old.slots.now }
     ensures lender { stack.new.slots.ghost_name ≡ stack.old.slots.ghost_name }
-    ensures lent { lent board.new ≡ lent board.old }
-    ensures beside { Framed (means board.old).readings (means board.new).readings (beside board.old) (beside board.new) }
-    ensures inputs { (means board.new).inputs ≡ (means board.old).inputs }
+    ensures lent { B.lent board.new ≡ B.lent board.old }
+    ensures beside { Framed (B.means board.old).readings (B.means board.new).readings (B.beside board.old) (B.beside board.new) }
+    ensures inputs { (B.means board.new).inputs ≡ (B.means board.old).inputs }
 {
     match o {
         Instruction::Csti => {

@@ -36,7 +36,7 @@ pub(crate) fn know_bytes(bytes: &[u8])
 }
 
 fn know_input<B: Board>(board: &B, n: usize)
-    ensures { n < length (means board.now).inputs → FitsSigned w32 (slice_index_or (means board.now).inputs n (pos 0)) }
+    ensures { n < length (B.means board.now).inputs → FitsSigned w32 (slice_index_or (B.means board.now).inputs n (pos 0)) }
 {
     if let Some(input) = board.input(n) {
         let _word = input;
@@ -45,7 +45,7 @@ fn know_input<B: Board>(board: &B, n: usize)
 
 /// Every input of a board is a 32-bit word.
 pub(crate) fn know_inputs<B: Board>(board: &B)
-    ensures { Fit (means board.now).inputs }
+    ensures { Fit (B.means board.now).inputs }
 {
     for n in 0..board.count() {
         know_input(board, n);

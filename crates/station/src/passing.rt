@@ -44,11 +44,11 @@ fn run<B: Board>(
     requires stack { length stack.old ≡ stack_words allowed.depth }
     ensures ran { MatchResult result
         (λ a. Ran (record { code = code.entry.now; deepest = allowed.depth })
-        (starting (laid globals.now stack.old) (length globals.now) (means board.old) allowed.turns)
-        a stack.new (means board.new))
+        (starting (laid globals.now stack.old) (length globals.now) (B.means board.old) allowed.turns)
+        a stack.new (B.means board.new))
         (λ _. ⊥) }
-    ensures lent { lent board.new ≡ lent board.old }
-    ensures beside { Framed (means board.old).readings (means board.new).readings (beside board.old) (beside board.new) }
+    ensures lent { B.lent board.new ≡ B.lent board.old }
+    ensures beside { Framed (B.means board.old).readings (B.means board.new).readings (B.beside board.old) (B.beside board.new) }
 {
     lay(stack, globals);
     execute(allowed, code, stack, globals.len(), board)
@@ -125,13 +125,13 @@ impl Station {
         stack: &mut [i32],
         board: &mut B,
     ) -> Result<Answer, Refusal>
-        ensures tells { Executed (pass_refusal self.old.inputs allowed (length stack.old) (length (means board.old).inputs)) result
+        ensures tells { Executed (pass_refusal self.old.inputs allowed (length stack.old) (length (B.means board.old).inputs)) result
             ((self.new ≡ self.old) × (stack.new ≡ stack.old) × (board.new ≡ board.old))
-            (λ a. Passed self.old self.new allowed stack.old stack.new (means board.old) (means board.new) a) }
+            (λ a. Passed self.old self.new allowed stack.old stack.new (B.means board.old) (B.means board.new) a) }
         ensures does { (σ : State) → Agrees σ self.old →
-            Does σ (passCall (plain_pass allowed (length stack.old) (means board.old))) (said_of result) (means board.new).readings self.new }
-        ensures lent { lent board.new ≡ lent board.old }
-        ensures beside { Framed (means board.old).readings (means board.new).readings (beside board.old) (beside board.new) }
+            Does σ (passCall (plain_pass allowed (length stack.old) (B.means board.old))) (said_of result) (B.means board.new).readings self.new }
+        ensures lent { B.lent board.new ≡ B.lent board.old }
+        ensures beside { Framed (B.means board.old).readings (B.means board.new).readings (B.beside board.old) (B.beside board.new) }
     {
         self.check(allowed, stack.len(), board.count())?;
         know_words(self.globals.as_slice());

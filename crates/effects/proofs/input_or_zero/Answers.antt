@@ -3,8 +3,8 @@ use Rattle.std.proofs.lemmas.Int.{to_z-of_z}
 use Rattle.effects.proofs.Inputs.{some_get_d, none_get_d}
 use Rattle.effects.proofs.input_or_zero.Goals as goal
 
-pub returns-in-default : goal.returns-in-default
-returns-in-default g c = search (rules, none_get_d)
+pub returns-in_default : goal.returns-in_default
+returns-in_default g c = search (rules, none_get_d)
 
 pub returns : goal.returns
 returns g c =
