@@ -23,8 +23,8 @@ returns-in-14 c =
     let e = args_also xs n here _ _ k ka.0 kb.0 in
     record { tree = e; room = ap args_room e; parts = (ka.1, kb.1) }
 
-pub returns-in-default : goal.returns-in-default
-returns-in-default c =
+pub returns-in_default : goal.returns-in_default
+returns-in_default c =
     let xs = c.args.nodes.now in
     let n = c.args.n in
     let here = c.requires.within in

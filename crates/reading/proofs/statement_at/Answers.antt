@@ -30,7 +30,7 @@ returns-in-17 c =
     let here = c.requires.within in
     let ch = c.requires.sound.1.shaped.children in
     let k : kind_at xs n ≡ 17 = c.in-17.is in
-    let ka = kid_a xs ch n here 17 k Expression c.field-a-in-17.result refl c.field-a-in-17.ensures in
+    let ka = kid_a xs ch n here 17 k Expression c.field_a-in-17.result refl c.field_a-in-17.ensures in
     let e = stmt_discard xs n here _ k ka.0 in
     record { tree = e; room = ap stmt_room e; nest = ap whiles e; parts = ka.1 }
 
@@ -41,8 +41,8 @@ returns-in-18 c =
     let here = c.requires.within in
     let ch = c.requires.sound.1.shaped.children in
     let k : kind_at xs n ≡ 18 = c.in-18.is in
-    let ka = kid_a xs ch n here 18 k Expression c.field-a-in-18.result refl c.field-a-in-18.ensures in
-    let kb = kid_b xs ch n here 18 k Statement c.field-b-in-18.result refl c.field-b-in-18.ensures in
+    let ka = kid_a xs ch n here 18 k Expression c.field_a-in-18.result refl c.field_a-in-18.ensures in
+    let kb = kid_b xs ch n here 18 k Statement c.field_b-in-18.result refl c.field_b-in-18.ensures in
     let kc = kid_c xs ch n here 18 k Statement c.field_c.result refl c.field_c.ensures in
     let e = stmt_if xs n here _ _ _ k ka.0 kb.0 kc.0 in
     record { tree = e; room = ap stmt_room e; nest = ap whiles e; parts = (ka.1, kb.1, kc.1) }
@@ -54,19 +54,19 @@ returns-in-19 c =
     let here = c.requires.within in
     let ch = c.requires.sound.1.shaped.children in
     let k : kind_at xs n ≡ 19 = c.in-19.is in
-    let ka = kid_a xs ch n here 19 k Expression c.field-a-in-19.result refl c.field-a-in-19.ensures in
-    let kb = kid_b xs ch n here 19 k Statement c.field-b-in-19.result refl c.field-b-in-19.ensures in
+    let ka = kid_a xs ch n here 19 k Expression c.field_a-in-19.result refl c.field_a-in-19.ensures in
+    let kb = kid_b xs ch n here 19 k Statement c.field_b-in-19.result refl c.field_b-in-19.ensures in
     let e = stmt_while xs n here _ _ k ka.0 kb.0 in
     record { tree = e; room = ap stmt_room e; nest = ap whiles e; parts = (ka.1, kb.1) }
 
-pub offset-bounds-nodes-a : goal.offset-bounds-nodes-a
-offset-bounds-nodes-a c =
+pub offset_bounds-nodes-a : goal.offset_bounds-nodes-a
+offset_bounds-nodes-a c =
     let xs = c.args.nodes.now in
     let n = c.args.n in
     let here = c.requires.within in
     let ch = c.requires.sound.1.shaped.children in
-    let ka = kid_a xs ch n here 20 c.in-20.is Expression c.field-a-a.result refl c.field-a-a.ensures in
-    let a : c.field-a-a.result < length xs = omega (arith, ka.1.0) in
+    let ka = kid_a xs ch n here 20 c.in-20.is Expression c.field_a-a.result refl c.field_a-a.ensures in
+    let a : c.field_a-a.result < length xs = omega (arith, ka.1.0) in
     search rules
 
 pub bounds-nodes-a : goal.bounds-nodes-a
@@ -75,20 +75,20 @@ bounds-nodes-a c =
     let n = c.args.n in
     let here = c.requires.within in
     let ch = c.requires.sound.1.shaped.children in
-    let ka = kid_a xs ch n here 20 c.in-20.is Expression c.field-a-a.result refl c.field-a-a.ensures in
-    let a : c.field-a-a.result < length xs = omega (arith, ka.1.0) in
+    let ka = kid_a xs ch n here 20 c.in-20.is Expression c.field_a-a.result refl c.field_a-a.ensures in
+    let a : c.field_a-a.result < length xs = omega (arith, ka.1.0) in
     search rules
 
-pub offset-bounds-functions-f : goal.offset-bounds-functions-f
-offset-bounds-functions-f c =
+pub offset_bounds-functions-f : goal.offset_bounds-functions-f
+offset_bounds-functions-f c =
     let xs = c.args.nodes.now in
     let n = c.args.n in
     let here = c.requires.within in
     let ch = c.requires.sound.1.shaped.children in
-    let ka = kid_a xs ch n here 20 c.in-20.is Expression c.field-a-a.result refl c.field-a-a.ensures in
-    let a : c.field-a-a.result < length xs = omega (arith, ka.1.0) in
-    let k : kind_at xs c.field-a-a.result ≡ 12 = search rules in
-    let f = function_in c.args.functions.now c.requires.sound.0 xs c.requires.sound.1 c.field-a-a.result a k _ c.field-a-f.ensures in
+    let ka = kid_a xs ch n here 20 c.in-20.is Expression c.field_a-a.result refl c.field_a-a.ensures in
+    let a : c.field_a-a.result < length xs = omega (arith, ka.1.0) in
+    let k : kind_at xs c.field_a-a.result ≡ 12 = search rules in
+    let f = function_in c.args.functions.now c.requires.sound.0 xs c.requires.sound.1 c.field_a-a.result a k _ c.field_a-f.ensures in
     search rules
 
 pub bounds-functions-f : goal.bounds-functions-f
@@ -97,10 +97,10 @@ bounds-functions-f c =
     let n = c.args.n in
     let here = c.requires.within in
     let ch = c.requires.sound.1.shaped.children in
-    let ka = kid_a xs ch n here 20 c.in-20.is Expression c.field-a-a.result refl c.field-a-a.ensures in
-    let a : c.field-a-a.result < length xs = omega (arith, ka.1.0) in
-    let k : kind_at xs c.field-a-a.result ≡ 12 = search rules in
-    let f = function_in c.args.functions.now c.requires.sound.0 xs c.requires.sound.1 c.field-a-a.result a k _ c.field-a-f.ensures in
+    let ka = kid_a xs ch n here 20 c.in-20.is Expression c.field_a-a.result refl c.field_a-a.ensures in
+    let a : c.field_a-a.result < length xs = omega (arith, ka.1.0) in
+    let k : kind_at xs c.field_a-a.result ≡ 12 = search rules in
+    let f = function_in c.args.functions.now c.requires.sound.0 xs c.requires.sound.1 c.field_a-a.result a k _ c.field_a-f.ensures in
     search rules
 
 pub returns-then-value-eq-CALL : goal.returns-then-value-eq-CALL
@@ -109,12 +109,12 @@ returns-then-value-eq-CALL c =
     let n = c.args.n in
     let here = c.requires.within in
     let ch = c.requires.sound.1.shaped.children in
-    let ka = kid_a xs ch n here 20 c.in-20.is Expression c.field-a-a.result refl c.field-a-a.ensures in
-    let a : c.field-a-a.result < length xs = omega (arith, ka.1.0) in
-    let k : kind_at xs c.field-a-a.result ≡ 12 = search rules in
-    let p = call_in c.args.functions.now c.requires.sound.0 xs c.requires.sound.1 c.field-a-a.result a k _ _ c.field-a-f.ensures c.field-b-then-value-eq-CALL.ensures in
-    let kb = kid_b xs ch c.field-a-a.result a 12 k Arguments c.field-b-then-value-eq-CALL.result refl c.field-b-then-value-eq-CALL.ensures in
-    let e = stmt_replace xs n here c.field-a-a.result c.in-20.is ka.0 _ k kb.0 ∙ ap (λ (f : ℕ). Tree.replace n c.field-a-a.result f (args_at xs c.field-b-then-value-eq-CALL.result)) (sym c.field-a-f.ensures) in
+    let ka = kid_a xs ch n here 20 c.in-20.is Expression c.field_a-a.result refl c.field_a-a.ensures in
+    let a : c.field_a-a.result < length xs = omega (arith, ka.1.0) in
+    let k : kind_at xs c.field_a-a.result ≡ 12 = search rules in
+    let p = call_in c.args.functions.now c.requires.sound.0 xs c.requires.sound.1 c.field_a-a.result a k _ _ c.field_a-f.ensures c.field_b-then-value-eq-CALL.ensures in
+    let kb = kid_b xs ch c.field_a-a.result a 12 k Arguments c.field_b-then-value-eq-CALL.result refl c.field_b-then-value-eq-CALL.ensures in
+    let e = stmt_replace xs n here c.field_a-a.result c.in-20.is ka.0 _ k kb.0 ∙ ap (λ (f : ℕ). Tree.replace n c.field_a-a.result f (args_at xs c.field_b-then-value-eq-CALL.result)) (sym c.field_a-f.ensures) in
     record { tree = e; room = ap stmt_room e; nest = ap whiles e; parts = (ka.1, (p.0, p.1, (omega (arith, ka.1.0, p.2.0), p.2.1))) }
 
 pub returns-else-value-eq-CALL : goal.returns-else-value-eq-CALL
@@ -123,14 +123,14 @@ returns-else-value-eq-CALL c =
     let n = c.args.n in
     let here = c.requires.within in
     let ch = c.requires.sound.1.shaped.children in
-    let ka = kid_a xs ch n here 20 c.in-20.is Expression c.field-a-a.result refl c.field-a-a.ensures in
-    let a : c.field-a-a.result < length xs = omega (arith, ka.1.0) in
-    let k : (kind_at xs c.field-a-a.result ≡ 12 → ⊥) = search rules in
-    let e = stmt_return xs n here c.field-a-a.result c.in-20.is ka.0 k in
+    let ka = kid_a xs ch n here 20 c.in-20.is Expression c.field_a-a.result refl c.field_a-a.ensures in
+    let a : c.field_a-a.result < length xs = omega (arith, ka.1.0) in
+    let k : (kind_at xs c.field_a-a.result ≡ 12 → ⊥) = search rules in
+    let e = stmt_return xs n here c.field_a-a.result c.in-20.is ka.0 k in
     record { tree = e; room = ap stmt_room e; nest = ap whiles e; parts = ka.1 }
 
-pub returns-in-default : goal.returns-in-default
-returns-in-default c =
+pub returns-in_default : goal.returns-in_default
+returns-in_default c =
     let xs = c.args.nodes.now in
     let n = c.args.n in
     let here = c.requires.within in

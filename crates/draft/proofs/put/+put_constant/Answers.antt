@@ -11,7 +11,7 @@ returns-in-Write t c =
     let f = c.ranges.value in
     let e = simp to_z-of_z at c.in-Write.ensures.plan in
     record {
-      code = (simp to_z-of_z at c.put-csti.ensures.code) ∙ cst_at c.args.cells.now c.args.at c.args.value c.args.mark _ e;
+      code = (simp to_z-of_z at c.put_csti.ensures.code) ∙ cst_at c.args.cells.now c.args.at c.args.value c.args.mark _ e;
       within = search rules;
       room = search rules;
     }
@@ -31,7 +31,7 @@ returns-in-Negate t c =
     let f = c.ranges.value in
     let e = simp to_z-of_z at c.in-Negate.ensures.plan in
     record {
-      code = c.put-not.ensures.code ∙ ap (not_put c.in-Negate.m) (sym (drop-drop 1 c.args.at c.args.cells.now)) ∙ cst_at c.args.cells.now c.args.at c.args.value c.args.mark _ e;
+      code = c.put_not.ensures.code ∙ ap (not_put c.in-Negate.m) (sym (drop-drop 1 c.args.at c.args.cells.now)) ∙ cst_at c.args.cells.now c.args.at c.args.value c.args.mark _ e;
       within = search rules;
       room = search rules;
     }
@@ -45,7 +45,7 @@ returns-in-Again t c =
     let n = c.args.mark in
     let xs = c.args.cells.now in
     record {
-      code = (simp to_z-of_z at c.put-constant.ensures.code) ∙ ap (λ j. constant_put j n (drop (c.args.at + 1) xs)) v ∙ ap (constant_put (flag (is_zero c.args.value)) n) (sym (drop-drop 1 c.args.at xs)) ∙ cst_at xs c.args.at c.args.value n _ e;
+      code = (simp to_z-of_z at c.put_constant.ensures.code) ∙ ap (λ j. constant_put j n (drop (c.args.at + 1) xs)) v ∙ ap (constant_put (flag (is_zero c.args.value)) n) (sym (drop-drop 1 c.args.at xs)) ∙ cst_at xs c.args.at c.args.value n _ e;
       within = search rules;
       room = search rules;
     }
@@ -55,7 +55,7 @@ returns-in-Jump t c =
     let f = c.ranges.value in
     let e = simp to_z-of_z at c.in-Jump.ensures.plan in
     record {
-      code = c.put-goto.ensures.code ∙ ap (goto_put c.in-Jump.p c.in-Jump.m) (sym (drop-drop 2 c.args.at c.args.cells.now)) ∙ cst_at c.args.cells.now c.args.at c.args.value c.args.mark _ e;
+      code = c.put_goto.ensures.code ∙ ap (goto_put c.in-Jump.p c.in-Jump.m) (sym (drop-drop 2 c.args.at c.args.cells.now)) ∙ cst_at c.args.cells.now c.args.at c.args.value c.args.mark _ e;
       within = search rules;
       room = search rules;
     }

@@ -12,6 +12,6 @@ returns c =
     let z = simp to_z-of_z at c.equal-zero.ensures in
     let o = simp to_z-of_z at c.equal-one.ensures in
     record {
-      plan = plan_of_lem xs c.args.at c.args.value c.plan-for.result c.head-at.result c.equal-zero.result c.equal-one.result c.plan-for.ensures c.head-at.ensures z o;
-      within = rw c.plan-for.ensures (off_at xs c.args.at c.head-at.result c.equal-zero.result c.equal-one.result c.head-at.ensures c.requires.within);
+      plan = plan_of_lem xs c.args.at c.args.value c.plan_for.result c.head_at.result c.equal-zero.result c.equal-one.result c.plan_for.ensures c.head_at.ensures z o;
+      within = rw c.plan_for.ensures (off_at xs c.args.at c.head_at.result c.equal-zero.result c.equal-one.result c.head_at.ensures c.requires.within);
     }

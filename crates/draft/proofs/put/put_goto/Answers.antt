@@ -11,7 +11,7 @@ returns-then-next c = record {
 
 pub returns : goal.returns
 returns c = record {
-  code = goto_put_lem c.args.cells.now _ c.args.at c.dead-p.result c.args.place c.args.mark c.dead-p.ensures.code c.if-next.ensures c.put-jump.ensures.code;
+  code = goto_put_lem c.args.cells.now _ c.args.at c.dead-p.result c.args.place c.args.mark c.dead-p.ensures.code c.if-next.ensures c.put_jump.ensures.code;
   within = search rules;
   room = search rules;
 }

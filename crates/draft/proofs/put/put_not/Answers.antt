@@ -6,13 +6,13 @@ use Rattle.draft.proofs.Widths.{wide_at}
 use Rattle.draft.proofs.Putting.{not_at}
 use Rattle.draft.proofs.put.put_not.Goals as goal
 
-pub put-jump-requires : goal.put-jump-requires
-put-jump-requires c =
+pub put_jump-requires : goal.put_jump-requires
+put_jump-requires c =
     let w = wide_at c.args.cells.now c.args.at _ c.in-JumpsZero.ensures c.requires.within in
     record { within = w; room = omega arith }
 
-pub put-jump-requires-in-JumpsNonzero : goal.put-jump-requires-in-JumpsNonzero
-put-jump-requires-in-JumpsNonzero c =
+pub put_jump-requires-in-JumpsNonzero : goal.put_jump-requires-in-JumpsNonzero
+put_jump-requires-in-JumpsNonzero c =
     let w = wide_at c.args.cells.now c.args.at _ c.in-JumpsNonzero.ensures c.requires.within in
     record { within = w; room = omega arith }
 
@@ -22,7 +22,7 @@ returns-in-JumpsZero c =
     let h = c.in-JumpsZero.ensures in
     let w = wide_at xs c.args.at _ h c.requires.within in
     record {
-      code = c.put-jump.ensures.code ∙ ap (jump_put IfNzro c.in-JumpsZero.p c.in-JumpsZero.m) (sym (drop-drop 2 c.args.at xs)) ∙ not_at xs c.args.at c.args.mark _ h;
+      code = c.put_jump.ensures.code ∙ ap (jump_put IfNzro c.in-JumpsZero.p c.in-JumpsZero.m) (sym (drop-drop 2 c.args.at xs)) ∙ not_at xs c.args.at c.args.mark _ h;
       within = search rules;
       room = search rules;
     }
@@ -33,7 +33,7 @@ returns-in-JumpsNonzero c =
     let h = c.in-JumpsNonzero.ensures in
     let w = wide_at xs c.args.at _ h c.requires.within in
     record {
-      code = c.put-jump-in-JumpsNonzero.ensures.code ∙ ap (jump_put IfZero c.in-JumpsNonzero.p c.in-JumpsNonzero.m) (sym (drop-drop 2 c.args.at xs)) ∙ not_at xs c.args.at c.args.mark _ h;
+      code = c.put_jump-in-JumpsNonzero.ensures.code ∙ ap (jump_put IfZero c.in-JumpsNonzero.p c.in-JumpsNonzero.m) (sym (drop-drop 2 c.args.at xs)) ∙ not_at xs c.args.at c.args.mark _ h;
       within = search rules;
       room = search rules;
     }

@@ -4,6 +4,6 @@ use Rattle.draft.proofs.put.put_one.Goals as goal
 
 pub returns : goal.returns
 returns c = record {
-  code = laid_on 1 (_ ∷ []) c.args.cells.now c.lay-one.new.part (c.args.at - 1) c.args.at (omega arith) c.requires.within (rw c.plain.ensures at c.lay-one.ensures);
+  code = laid_on 1 (_ ∷ []) c.args.cells.now c.lay_one.new.part (c.args.at - 1) c.args.at (omega arith) c.requires.within (rw c.plain.ensures at c.lay_one.ensures);
   place = omega arith;
 }
