@@ -1,7 +1,7 @@
 use Rattle.expressions.proofs.+put_arguments_put_expression.Given as goal
 
-abbrev pub decreases-put-expression : goal.decreases-put-expression
-decreases-put-expression l = l.n
+abbrev pub decreases-put_expression : goal.decreases-put_expression
+decreases-put_expression l = l.n
 
-abbrev pub decreases-put-arguments : goal.decreases-put-arguments
-decreases-put-arguments l = l.n
+abbrev pub decreases-put_arguments : goal.decreases-put_arguments
+decreases-put_arguments l = l.n

@@ -8,11 +8,11 @@ pub loop-i-preserved : goal.loop-i-preserved
 loop-i-preserved c =
     let xs = c.args.cells.now in
     let i = c.loop-i.i in
-    let g : SFits w32 c.word-of.result = search rules in
+    let g : SFits w32 c.word_of.result = search rules in
     let w : i < length c.loop-i.words = search rules in
     let m : i < length c.loop-i.marks = search rules in
     let h : i < length xs = search rules in (
-      map_set_more (cell_word c.args.starts.now c.args.entries.now (length xs)) xs c.loop-i.words i zero_cell _ h w (to_z-of_z w32 c.word-of.result g ∙ c.word-of.ensures) c.loop-i.invariant.0,
+      map_set_more (cell_word c.args.starts.now c.args.entries.now (length xs)) xs c.loop-i.words i zero_cell _ h w (to_z-of_z w32 c.word_of.result g ∙ c.word_of.ensures) c.loop-i.invariant.0,
       map_set_more cell_mark xs c.loop-i.marks i zero_cell _ h m refl c.loop-i.invariant.1,
     )
 

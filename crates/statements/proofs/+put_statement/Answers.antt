@@ -9,8 +9,8 @@ use Rattle.statements.proofs.StmtLaws.{stmt_turns, stmt_learns, nothing_turns, n
 use Rattle.statements.proofs.Stacked.{popped, some_same, some_none}
 use Rattle.statements.proofs.+put_statement.Goals as goal
 
-pub statement-at-requires : goal.statement-at-requires
-statement-at-requires t c = record { sound = (c.args.globals.now, c.requires.sound); within = c.requires.node; sort = c.requires.sort }
+pub statement_at-requires : goal.statement_at-requires
+statement_at-requires t c = record { sound = (c.args.globals.now, c.requires.sound); within = c.requires.node; sort = c.requires.sort }
 
 pub returns-in-Nothing : goal.returns-in-Nothing
 returns-in-Nothing t c = record {
@@ -26,19 +26,19 @@ returns-in-Nothing t c = record {
 
 pub returns-in-Then : goal.returns-in-Then
 returns-in-Then t c = record {
-  code = stmt_turns c.args.globals.now c.args.total _ _ _ _ c.in-Then.ensures.tree (chain_turns c.args.globals.now c.args.total c.args.n _ _ _ _ _ c.put-statement-p.ensures.code c.put-statement.ensures.code);
+  code = stmt_turns c.args.globals.now c.args.total _ _ _ _ c.in-Then.ensures.tree (chain_turns c.args.globals.now c.args.total c.args.n _ _ _ _ _ c.put_statement-p.ensures.code c.put_statement.ensures.code);
   within = search rules;
   room = search rules;
   used = search rules;
   long = search rules;
-  kept = kept_twice _ _ _ _ _ c.put-statement-p.ensures.used c.put-statement-p.ensures.kept c.put-statement.ensures.kept;
+  kept = kept_twice _ _ _ _ _ c.put_statement-p.ensures.used c.put_statement-p.ensures.kept c.put_statement.ensures.kept;
   lender = search rules;
-  starts = stmt_learns c.args.globals.now c.args.total _ _ _ _ _ c.in-Then.ensures.tree (chain_learns c.args.globals.now c.args.total c.args.n _ _ _ _ _ _ _ c.put-statement-p.ensures.code c.put-statement-p.ensures.starts c.put-statement.ensures.starts);
+  starts = stmt_learns c.args.globals.now c.args.total _ _ _ _ _ c.in-Then.ensures.tree (chain_learns c.args.globals.now c.args.total c.args.n _ _ _ _ _ _ _ c.put_statement-p.ensures.code c.put_statement-p.ensures.starts c.put_statement.ensures.starts);
 }
 
 pub returns-in-Evaluate : goal.returns-in-Evaluate
 returns-in-Evaluate t c = record {
-  code = stmt_turns c.args.globals.now c.args.total _ _ _ _ c.in-Evaluate.ensures.tree (discard_turns c.args.globals.now c.args.total c.args.n _ _ _ _ c.put-two-p.ensures.code c.put-expression.ensures.code);
+  code = stmt_turns c.args.globals.now c.args.total _ _ _ _ c.in-Evaluate.ensures.tree (discard_turns c.args.globals.now c.args.total c.args.n _ _ _ _ c.put_two-p.ensures.code c.put_expression.ensures.code);
   within = search rules;
   room = search rules;
   used = refl;
@@ -50,19 +50,19 @@ returns-in-Evaluate t c = record {
 
 pub returns-in-If : goal.returns-in-If
 returns-in-If t c = record {
-  code = stmt_turns c.args.globals.now c.args.total _ _ _ _ c.in-If.ensures.tree (if_turns c.args.globals.now c.args.total c.args.n _ _ _ _ _ _ _ _ _ _ _ _ _ c.put-way-exit.ensures.code c.put-way-exit.ensures.to c.put-statement-p-in-If.ensures.code c.put-label-to.ensures.code c.put-label-to.ensures.to c.put-exit-q.ensures.code c.put-statement-r.ensures.code c.put-jump-s.ensures.code c.put-expression-in-If.ensures.code);
+  code = stmt_turns c.args.globals.now c.args.total _ _ _ _ c.in-If.ensures.tree (if_turns c.args.globals.now c.args.total c.args.n _ _ _ _ _ _ _ _ _ _ _ _ _ c.put_way-exit.ensures.code c.put_way-exit.ensures.to c.put_statement-p-in-If.ensures.code c.put_label-to.ensures.code c.put_label-to.ensures.to c.put_exit-q.ensures.code c.put_statement-r.ensures.code c.put_jump-s.ensures.code c.put_expression-in-If.ensures.code);
   within = search rules;
   room = search rules;
   used = search rules;
   long = search rules;
-  kept = kept_twice _ _ _ _ _ c.put-statement-p-in-If.ensures.used c.put-statement-p-in-If.ensures.kept c.put-statement-r.ensures.kept;
+  kept = kept_twice _ _ _ _ _ c.put_statement-p-in-If.ensures.used c.put_statement-p-in-If.ensures.kept c.put_statement-r.ensures.kept;
   lender = search rules;
-  starts = stmt_learns c.args.globals.now c.args.total _ _ _ _ _ c.in-If.ensures.tree (if_learns c.args.globals.now c.args.total c.args.n _ _ _ _ _ _ _ _ _ _ _ _ c.put-way-exit.ensures.code c.put-way-exit.ensures.to c.put-statement-p-in-If.ensures.code c.put-statement-p-in-If.ensures.starts c.put-label-to.ensures.code c.put-exit-q.ensures.code c.put-statement-r.ensures.starts);
+  starts = stmt_learns c.args.globals.now c.args.total _ _ _ _ _ c.in-If.ensures.tree (if_learns c.args.globals.now c.args.total c.args.n _ _ _ _ _ _ _ _ _ _ _ _ c.put_way-exit.ensures.code c.put_way-exit.ensures.to c.put_statement-p-in-If.ensures.code c.put_statement-p-in-If.ensures.starts c.put_label-to.ensures.code c.put_exit-q.ensures.code c.put_statement-r.ensures.starts);
 }
 
 pub returns-in-Return : goal.returns-in-Return
 returns-in-Return t c = record {
-  code = stmt_turns c.args.globals.now c.args.total _ _ _ _ c.in-Return.ensures.tree (return_turns c.args.globals.now c.args.total c.args.n _ _ _ _ c.put-return-p.ensures.code c.put-expression-in-Return.ensures.code);
+  code = stmt_turns c.args.globals.now c.args.total _ _ _ _ c.in-Return.ensures.tree (return_turns c.args.globals.now c.args.total c.args.n _ _ _ _ c.put_return-p.ensures.code c.put_expression-in-Return.ensures.code);
   within = search rules;
   room = search rules;
   used = refl;
@@ -74,7 +74,7 @@ returns-in-Return t c = record {
 
 pub returns-in-Replace : goal.returns-in-Replace
 returns-in-Replace t c = record {
-  code = stmt_turns c.args.globals.now c.args.total _ _ _ _ c.in-Replace.ensures.tree (replace_turns c.args.globals.now c.args.total c.args.n _ _ _ _ _ _ _ c.in-Replace.ensures.parts.1.1 c.put-replacing-p.ensures.code c.put-arguments.ensures.code);
+  code = stmt_turns c.args.globals.now c.args.total _ _ _ _ c.in-Replace.ensures.tree (replace_turns c.args.globals.now c.args.total c.args.n _ _ _ _ _ _ _ c.in-Replace.ensures.parts.1.1 c.put_replacing-p.ensures.code c.put_arguments.ensures.code);
   within = search rules;
   room = search rules;
   used = refl;
@@ -84,8 +84,8 @@ returns-in-Replace t c = record {
   starts = stmt_learns c.args.globals.now c.args.total _ _ _ _ _ c.in-Replace.ensures.tree (replace_learns c.args.globals.now c.args.total c.args.n _ _ _ _ _);
 }
 
-pub put-statement-q-requires : goal.put-statement-q-requires
-put-statement-q-requires t c =
+pub put_statement-q-requires : goal.put_statement-q-requires
+put_statement-q-requires t c =
     let spare : c.args.loops.now.used < length c.args.loops.now.slots.now = search rules in
     let taken : c.push-taken.result ≡ true = c.push-taken.ensures.taken ∙ lt-ltb _ _ spare in
     let slots = c.push-taken.ensures.slots ∙ cond-true c.push-taken.result _ _ taken in
@@ -93,27 +93,27 @@ put-statement-q-requires t c =
     let long = ap length slots ∙ length-set c.args.loops.now.slots.now _ _ in
     search rules
 
-pub returns-in-default : goal.returns-in-default
-returns-in-default t c =
+pub returns-in_default : goal.returns-in_default
+returns-in_default t c =
     let spare : c.args.loops.now.used < length c.args.loops.now.slots.now = search rules in
     let taken : c.push-taken.result ≡ true = c.push-taken.ensures.taken ∙ lt-ltb _ _ spare in
     let slots = c.push-taken.ensures.slots ∙ cond-true c.push-taken.result _ _ taken in
     let used = c.push-taken.ensures.used ∙ cond-true {A = ℕ} c.push-taken.result _ _ taken in
-    let p = popped c.args.loops.now.slots.now c.push-taken.new.self.slots.now c.put-statement-q.new.loops.slots.now c.args.loops.now.used c.push-taken.new.self.used c.put-statement-q.new.loops.used (record { node = c.args.n; out = c.put-label-out.result }) c.pop.result
-    spare slots used c.put-statement-q.ensures.long c.put-statement-q.ensures.used c.put-statement-q.ensures.kept c.pop.ensures.value in
-    absurd (some_none c.pop.result _ p c.in-default.is)
+    let p = popped c.args.loops.now.slots.now c.push-taken.new.self.slots.now c.put_statement-q.new.loops.slots.now c.args.loops.now.used c.push-taken.new.self.used c.put_statement-q.new.loops.used (record { node = c.args.n; out = c.put_label-out.result }) c.pop.result
+    spare slots used c.put_statement-q.ensures.long c.put_statement-q.ensures.used c.put_statement-q.ensures.kept c.pop.ensures.value in
+    absurd (some_none c.pop.result _ p c.in_default.is)
 
-pub offset-bounds-starts-open : goal.offset-bounds-starts-open
-offset-bounds-starts-open t c =
+pub offset_bounds-starts-open : goal.offset_bounds-starts-open
+offset_bounds-starts-open t c =
     let spare : c.args.loops.now.used < length c.args.loops.now.slots.now = search rules in
     let taken : c.push-taken.result ≡ true = c.push-taken.ensures.taken ∙ lt-ltb _ _ spare in
     let slots = c.push-taken.ensures.slots ∙ cond-true c.push-taken.result _ _ taken in
     let used = c.push-taken.ensures.used ∙ cond-true {A = ℕ} c.push-taken.result _ _ taken in
-    let p = popped c.args.loops.now.slots.now c.push-taken.new.self.slots.now c.put-statement-q.new.loops.slots.now c.args.loops.now.used c.push-taken.new.self.used c.put-statement-q.new.loops.used (record { node = c.args.n; out = c.put-label-out.result }) c.pop.result
-    spare slots used c.put-statement-q.ensures.long c.put-statement-q.ensures.used c.put-statement-q.ensures.kept c.pop.ensures.value in
+    let p = popped c.args.loops.now.slots.now c.push-taken.new.self.slots.now c.put_statement-q.new.loops.slots.now c.args.loops.now.used c.push-taken.new.self.used c.put_statement-q.new.loops.used (record { node = c.args.n; out = c.put_label-out.result }) c.pop.result
+    spare slots used c.put_statement-q.ensures.long c.put_statement-q.ensures.used c.put_statement-q.ensures.kept c.pop.ensures.value in
     let e = some_same c.pop.result c.in-Some.open _ c.in-Some.is p in
     let i : c.in-Some.open.node ≡ c.args.n = ap (λ (o : LoopLabel). o.node) e in
-    let h : c.in-Some.open.node < length c.put-statement-q.new.starts = search rules in
+    let h : c.in-Some.open.node < length c.put_statement-q.new.starts = search rules in
     search rules
 
 pub bounds-starts-open : goal.bounds-starts-open
@@ -122,8 +122,8 @@ bounds-starts-open t c =
     let taken : c.push-taken.result ≡ true = c.push-taken.ensures.taken ∙ lt-ltb _ _ spare in
     let slots = c.push-taken.ensures.slots ∙ cond-true c.push-taken.result _ _ taken in
     let used = c.push-taken.ensures.used ∙ cond-true {A = ℕ} c.push-taken.result _ _ taken in
-    let p = popped c.args.loops.now.slots.now c.push-taken.new.self.slots.now c.put-statement-q.new.loops.slots.now c.args.loops.now.used c.push-taken.new.self.used c.put-statement-q.new.loops.used (record { node = c.args.n; out = c.put-label-out.result }) c.pop.result
-    spare slots used c.put-statement-q.ensures.long c.put-statement-q.ensures.used c.put-statement-q.ensures.kept c.pop.ensures.value in
+    let p = popped c.args.loops.now.slots.now c.push-taken.new.self.slots.now c.put_statement-q.new.loops.slots.now c.args.loops.now.used c.push-taken.new.self.used c.put_statement-q.new.loops.used (record { node = c.args.n; out = c.put_label-out.result }) c.pop.result
+    spare slots used c.put_statement-q.ensures.long c.put_statement-q.ensures.used c.put_statement-q.ensures.kept c.pop.ensures.value in
     let e = some_same c.pop.result c.in-Some.open _ c.in-Some.is p in
     let i : c.in-Some.open.node ≡ c.args.n = ap (λ (o : LoopLabel). o.node) e in
     search rules
@@ -134,21 +134,21 @@ returns-in-Some t c =
     let taken : c.push-taken.result ≡ true = c.push-taken.ensures.taken ∙ lt-ltb _ _ spare in
     let slots = c.push-taken.ensures.slots ∙ cond-true c.push-taken.result _ _ taken in
     let used = c.push-taken.ensures.used ∙ cond-true {A = ℕ} c.push-taken.result _ _ taken in
-    let p = popped c.args.loops.now.slots.now c.push-taken.new.self.slots.now c.put-statement-q.new.loops.slots.now c.args.loops.now.used c.push-taken.new.self.used c.put-statement-q.new.loops.used (record { node = c.args.n; out = c.put-label-out.result }) c.pop.result
-    spare slots used c.put-statement-q.ensures.long c.put-statement-q.ensures.used c.put-statement-q.ensures.kept c.pop.ensures.value in
+    let p = popped c.args.loops.now.slots.now c.push-taken.new.self.slots.now c.put_statement-q.new.loops.slots.now c.args.loops.now.used c.push-taken.new.self.used c.put_statement-q.new.loops.used (record { node = c.args.n; out = c.put_label-out.result }) c.pop.result
+    spare slots used c.put_statement-q.ensures.long c.put_statement-q.ensures.used c.put_statement-q.ensures.kept c.pop.ensures.value in
     let e = some_same c.pop.result c.in-Some.open _ c.in-Some.is p in
     let i : c.in-Some.open.node ≡ c.args.n = ap (λ (o : LoopLabel). o.node) e in
-    let j = c.put-jump-r.ensures.code ∙ ap (λ (o : LoopLabel). jump_put IfZero o.out o.node (drop c.put-statement-q.result c.put-statement-q.new.cells)) e in
-    let m = length c.flag-at.new.cells - c.put-expression-s.result in
-    let l : length c.flag-at.new.cells - c.put-expression-s.result ≡ length (drop c.put-expression-s.result c.put-expression-s.new.cells) = search (rules, length-drop) in
+    let j = c.put_jump-r.ensures.code ∙ ap (λ (o : LoopLabel). jump_put IfZero o.out o.node (drop c.put_statement-q.result c.put_statement-q.new.cells)) e in
+    let m = length c.flag_at.new.cells - c.put_expression-s.result in
+    let l : length c.flag_at.new.cells - c.put_expression-s.result ≡ length (drop c.put_expression-s.result c.put_expression-s.new.cells) = search (rules, length-drop) in
     record {
-      code = stmt_turns c.args.globals.now c.args.total _ _ _ _ c.in-While.ensures.tree (while_turns c.args.globals.now c.args.total c.args.n _ _ _ _ _ _ _ _ _ _ c.put-label-out.ensures.code c.put-label-out.ensures.to c.put-goto-p.ensures.code c.put-statement-q.ensures.code j c.put-expression-s.ensures.code c.flag-at.ensures);
+      code = stmt_turns c.args.globals.now c.args.total _ _ _ _ c.in-While.ensures.tree (while_turns c.args.globals.now c.args.total c.args.n _ _ _ _ _ _ _ _ _ _ c.put_label-out.ensures.code c.put_label-out.ensures.to c.put_goto-p.ensures.code c.put_statement-q.ensures.code j c.put_expression-s.ensures.code c.flag_at.ensures);
       within = search rules;
       room = search rules;
-      used = omega (arith, c.pop.ensures.used, c.put-statement-q.ensures.used, used);
-      long = ap length c.pop.ensures.slots ∙ c.put-statement-q.ensures.long ∙ ap length slots ∙ length-set c.args.loops.now.slots.now _ _;
-      kept = ap (take c.args.loops.now.used) c.pop.ensures.slots ∙ kept_push c.args.loops.now.used c.push-taken.new.self.used c.args.loops.now.slots.now c.put-statement-q.new.loops.slots.now (record { node = c.args.n; out = c.put-label-out.result }) used (c.put-statement-q.ensures.kept ∙ ap (take c.push-taken.new.self.used) slots);
-      lender = c.pop.ensures.lender ∙ c.put-statement-q.ensures.lender ∙ c.push-taken.ensures.lender;
-      starts = learns_as _ _ (set c.put-statement-q.new.starts c.args.n m) _ (stmt_code c.args.globals.now c.args.total (stmt_at c.args.nodes.now c.args.n)) (ap (λ (o : LoopLabel). set c.put-statement-q.new.starts o.node m) e) (stmt_learns c.args.globals.now c.args.total _ _ _ _ _ c.in-While.ensures.tree
-          (while_learns c.args.globals.now c.args.total c.args.n _ _ _ _ _ _ _ _ _ _ _ m c.put-label-out.ensures.code c.put-label-out.ensures.to c.put-goto-p.ensures.code c.put-statement-q.ensures.code c.put-statement-q.ensures.starts j c.put-expression-s.ensures.code (search rules) l));
+      used = omega (arith, c.pop.ensures.used, c.put_statement-q.ensures.used, used);
+      long = ap length c.pop.ensures.slots ∙ c.put_statement-q.ensures.long ∙ ap length slots ∙ length-set c.args.loops.now.slots.now _ _;
+      kept = ap (take c.args.loops.now.used) c.pop.ensures.slots ∙ kept_push c.args.loops.now.used c.push-taken.new.self.used c.args.loops.now.slots.now c.put_statement-q.new.loops.slots.now (record { node = c.args.n; out = c.put_label-out.result }) used (c.put_statement-q.ensures.kept ∙ ap (take c.push-taken.new.self.used) slots);
+      lender = c.pop.ensures.lender ∙ c.put_statement-q.ensures.lender ∙ c.push-taken.ensures.lender;
+      starts = learns_as _ _ (set c.put_statement-q.new.starts c.args.n m) _ (stmt_code c.args.globals.now c.args.total (stmt_at c.args.nodes.now c.args.n)) (ap (λ (o : LoopLabel). set c.put_statement-q.new.starts o.node m) e) (stmt_learns c.args.globals.now c.args.total _ _ _ _ _ c.in-While.ensures.tree
+          (while_learns c.args.globals.now c.args.total c.args.n _ _ _ _ _ _ _ _ _ _ _ m c.put_label-out.ensures.code c.put_label-out.ensures.to c.put_goto-p.ensures.code c.put_statement-q.ensures.code c.put_statement-q.ensures.starts j c.put_expression-s.ensures.code (search rules) l));
     }

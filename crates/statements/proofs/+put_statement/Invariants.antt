@@ -1,4 +1,4 @@
 use Rattle.statements.proofs.+put_statement.Given as goal
 
-abbrev pub decreases-put-statement : goal.decreases-put-statement
-decreases-put-statement l = l.n
+abbrev pub decreases-put_statement : goal.decreases-put_statement
+decreases-put_statement l = l.n

@@ -9,12 +9,12 @@ pub returns : goal.returns
 returns c =
     let f = c.ranges.local in
     let n = c.args.mark in
-    let e = (simp to_z-of_z at c.put-constant-q.ensures.code) ∙ ap (λ v. constant_put v n (drop c.put-one-p.result c.put-one-p.new.cells)) c.requires.natural in
+    let e = (simp to_z-of_z at c.put_constant-q.ensures.code) ∙ ap (λ v. constant_put v n (drop c.put_one-p.result c.put_one-p.new.cells)) c.requires.natural in
     record {
       code = λ C h.
-          let a = plain_step S.add n _ _ c.put-one-p.ensures.code C h in
+          let a = plain_step S.add n _ _ c.put_one-p.ensures.code C h in
           let b = cst_step (pos (nat_abs c.args.local)) n _ _ e (S.plain S.add n ∷ C) a in
-          plain_step S.getbp n _ _ c.put-one.ensures.code _ b;
+          plain_step S.getbp n _ _ c.put_one.ensures.code _ b;
       within = search rules;
       room = search rules;
     }

@@ -7,5 +7,5 @@ use Rattle.phrases.proofs.address.put_number.Goals as goal
 pub returns : goal.returns
 returns c =
     let f : SFits w32 c.number.result = search rules in
-    let e = (simp to_z-of_z at c.put-constant.ensures.code) ∙ ap (λ v. constant_put v c.args.mark (drop c.args.at c.args.cells.now)) c.number.ensures in
+    let e = (simp to_z-of_z at c.put_constant.ensures.code) ∙ ap (λ v. constant_put v c.args.mark (drop c.args.at c.args.cells.now)) c.number.ensures in
     record { code = cst_step (pos c.args.n) c.args.mark _ _ e; within = search rules; room = search rules }

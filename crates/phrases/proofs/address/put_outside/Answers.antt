@@ -8,9 +8,9 @@ returns c =
     let n = c.args.mark in
     record {
       code = λ C h.
-          let a = flag-step _ _ c.flag-at.ensures C h in
-          let b = plain_step S.ldi n _ _ c.put-one-p.ensures.code (S.label ∷ C) a in
-          let d = csti-step (negsuc 0) n _ _ c.put-csti-q.ensures.code (S.plain S.ldi n ∷ (S.label ∷ C)) b in
-          flag-step _ _ c.flag-at-2.ensures _ d;
+          let a = flag-step _ _ c.flag_at.ensures C h in
+          let b = plain_step S.ldi n _ _ c.put_one-p.ensures.code (S.label ∷ C) a in
+          let d = csti-step (negsuc 0) n _ _ c.put_csti-q.ensures.code (S.plain S.ldi n ∷ (S.label ∷ C)) b in
+          flag-step _ _ c.flag_at-2.ensures _ d;
       place = search rules;
     }

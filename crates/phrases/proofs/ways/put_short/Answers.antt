@@ -7,7 +7,7 @@ pub returns : goal.returns
 returns c =
     let f = c.ranges.value in
     record {
-      code = short_step c.args.value c.args.mark _ _ _ _ _ _ _ c.put-way-exit.ensures.code c.put-way-exit.ensures.to (simp to_z-of_z at c.put-constant-p.ensures.code) c.put-label-to.ensures.code c.put-label-to.ensures.to c.put-exit-q.ensures.code;
+      code = short_step c.args.value c.args.mark _ _ _ _ _ _ _ c.put_way-exit.ensures.code c.put_way-exit.ensures.to (simp to_z-of_z at c.put_constant-p.ensures.code) c.put_label-to.ensures.code c.put_label-to.ensures.to c.put_exit-q.ensures.code;
       within = search rules;
       room = search rules;
     }
