@@ -10,14 +10,14 @@ returns c =
     let total = c.args.function.parameters + c.args.function.locals in
     let locals = c.args.function.locals in
     let body = stmt_at c.args.nodes.now c.args.function.body in
-    let l : length c.flag-at.new.cells - c.put-zeros-s.result ≡ length (drop c.put-zeros-s.result c.put-zeros-s.new.cells) = search (rules, length-drop) in
+    let l : length c.flag_at.new.cells - c.put_zeros-s.result ≡ length (drop c.put_zeros-s.result c.put_zeros-s.new.cells) = search (rules, length-drop) in
     record {
-      code = function_turns ls n total locals body _ _ _ _ _ _ c.put-return-p.ensures.code c.put-constant-q.ensures.code c.put-statement-r.ensures.code c.put-zeros-s.ensures.code c.flag-at.ensures;
+      code = function_turns ls n total locals body _ _ _ _ _ _ c.put_return-p.ensures.code c.put_constant-q.ensures.code c.put_statement-r.ensures.code c.put_zeros-s.ensures.code c.flag_at.ensures;
       within = search rules;
       room = search rules;
-      used = c.put-statement-r.ensures.used;
-      long = c.put-statement-r.ensures.long;
-      lender = c.put-statement-r.ensures.lender;
-      starts = function_learns ls n total locals body _ _ _ _ _ c.put-return-p.ensures.code c.put-constant-q.ensures.code c.put-statement-r.ensures.starts;
-      entries = function_enters ls n total locals body _ _ _ _ _ _ _ c.put-return-p.ensures.code c.put-constant-q.ensures.code c.put-statement-r.ensures.code c.put-zeros-s.ensures.code c.requires.entries l;
+      used = c.put_statement-r.ensures.used;
+      long = c.put_statement-r.ensures.long;
+      lender = c.put_statement-r.ensures.lender;
+      starts = function_learns ls n total locals body _ _ _ _ _ c.put_return-p.ensures.code c.put_constant-q.ensures.code c.put_statement-r.ensures.starts;
+      entries = function_enters ls n total locals body _ _ _ _ _ _ _ c.put_return-p.ensures.code c.put_constant-q.ensures.code c.put_statement-r.ensures.code c.put_zeros-s.ensures.code c.requires.entries l;
     }

@@ -14,8 +14,8 @@ loop-i-init c =
     let e = code_end gs xs fs in
     let r = ap (functions_room xs) (take_all (length fs) fs (omega arith)) in (
       nothing_drafted _ _ e (drop_all (length c.args.cells.now) c.args.cells.now (omega arith)),
-      knows_as _ _ _ (sym e) c.requires.no-loops,
-      enters_as _ _ _ (sym e) c.requires.no-functions,
+      knows_as _ _ _ (sym e) c.requires.no_loops,
+      enters_as _ _ _ (sym e) c.requires.no_functions,
       omega arith,
       omega (arith, r),
       omega (arith, r),
@@ -24,8 +24,8 @@ loop-i-init c =
       refl,
     )
 
-pub put-function-at-requires : goal.put-function-at-requires
-put-function-at-requires c =
+pub put_function-at-requires : goal.put_function-at-requires
+put_function-at-requires c =
     let xs = c.args.nodes.now in
     let fs = c.args.functions.now in
     let j = c.loop-i.i - 1 in
@@ -53,13 +53,13 @@ loop-i-preserved c =
     let m = code_more gs xs fs c.loop-i.i (c.loop-i.i - 1) (omega arith) h in
     let r = room-more xs fs c.loop-i.i (c.loop-i.i - 1) (omega arith) h in
     let d = c.loop-i.invariant.0 in (
-      draft_as _ _ _ m (c.put-function-at.ensures.code (code_from gs xs fs c.loop-i.i) d),
-      knows_as _ _ _ m (c.put-function-at.ensures.starts (code_from gs xs fs c.loop-i.i) d c.loop-i.invariant.1),
-      enters_as _ _ _ m (c.put-function-at.ensures.entries (code_from gs xs fs c.loop-i.i) d c.loop-i.invariant.2),
-      c.put-function-at.ensures.within,
-      omega (arith, r, c.put-function-at.ensures.room, c.loop-i.invariant.4),
+      draft_as _ _ _ m (c.put_function-at.ensures.code (code_from gs xs fs c.loop-i.i) d),
+      knows_as _ _ _ m (c.put_function-at.ensures.starts (code_from gs xs fs c.loop-i.i) d c.loop-i.invariant.1),
+      enters_as _ _ _ m (c.put_function-at.ensures.entries (code_from gs xs fs c.loop-i.i) d c.loop-i.invariant.2),
+      c.put_function-at.ensures.within,
+      omega (arith, r, c.put_function-at.ensures.room, c.loop-i.invariant.4),
       search (rules, r),
-      c.put-function-at.ensures.used ∙ c.loop-i.invariant.6,
-      c.put-function-at.ensures.long ∙ c.loop-i.invariant.7,
-      c.put-function-at.ensures.lender ∙ c.loop-i.invariant.8,
+      c.put_function-at.ensures.used ∙ c.loop-i.invariant.6,
+      c.put_function-at.ensures.long ∙ c.loop-i.invariant.7,
+      c.put_function-at.ensures.lender ∙ c.loop-i.invariant.8,
     )

@@ -6,4 +6,4 @@ pub loop-i-init : goal.loop-i-init
 loop-i-init c = (zeros-none _, search rules, search rules)
 
 pub loop-i-preserved : goal.loop-i-preserved
-loop-i-preserved c = (zeros-more c.loop-i.-i _ _ _ c.loop-i.invariant.0 c.put-constant-p.ensures.code, search rules, search rules)
+loop-i-preserved c = (zeros-more c.loop-i._i _ _ _ c.loop-i.invariant.0 c.put_constant-p.ensures.code, search rules, search rules)

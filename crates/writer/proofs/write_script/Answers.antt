@@ -4,8 +4,8 @@ use Rattle.room.proofs.Enough.{room_suffices}
 use Rattle.room.proofs.Depth.{loops_fit}
 use Rattle.writer.proofs.write_script.Goals as goal
 
-pub write-code-requires : goal.write-code-requires
-write-code-requires c =
+pub write_code-requires : goal.write_code-requires
+write_code-requires c =
     let fs = c.args.functions.now in
     let gs = c.args.globals.now in
     let xs = c.args.nodes.now in
@@ -26,7 +26,7 @@ write-code-requires c =
       room = omega (arith, r, c.requires.cells);
       starts = search (rules, s.limited.nodes.1);
       entries = search (rules, s.limited.functions.1);
-      no-loops = c.clear.ensures;
-      no-functions = c.clear-2.ensures;
+      no_loops = c.clear.ensures;
+      no_functions = c.clear-2.ensures;
       marks = search rules;
     }

@@ -3,10 +3,10 @@ use Rattle.script.proofs.SoundLaws.{sound}
 use Rattle.compiler.proofs.Landing.{no_fault, started, entries_are}
 use Rattle.compiler.proofs.Compiler.compile.Goals as goal
 
-pub write-script-requires : goal.write-script-requires
-write-script-requires c =
+pub write_script-requires : goal.write_script-requires
+write_script-requires c =
     record {
-      sound = sound _ _ _ (no_fault _ c.in-ok-check.ensures);
+      sound = sound _ _ _ (no_fault _ c.in_ok-check.ensures);
       cells = search rules;
       loops = search rules;
       starts = search rules;
@@ -17,8 +17,8 @@ write-script-requires c =
 
 pub returns : goal.returns
 returns c =
-    let accepted = no_fault _ c.in-ok-check.ensures in
-    let e = c.in-ok-start.ensures in
+    let accepted = no_fault _ c.in_ok-check.ensures in
+    let e = c.in_ok-start.ensures in
     record {
       answer = started _ _ _ _ accepted e.answer;
       code = λ q short.
@@ -27,7 +27,7 @@ returns c =
             marks_are = e.marks short;
             entries_are = λ f h.
                 let few = (sound _ _ _ accepted).limited.functions.1 in
-                let k : f < length c.write-script.new.entries = omega arith in
-                entries_are _ _ _ _ c.write-script.new.entries _ f short e.answer e.entries c.turn-round.ensures h k;
+                let k : f < length c.write_script.new.entries = omega arith in
+                entries_are _ _ _ _ c.write_script.new.entries _ f short e.answer e.entries c.turn_round.ensures h k;
           };
     }
