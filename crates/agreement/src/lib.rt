@@ -1,4 +1,6 @@
 // The code does what the script means. The statement stands in specs/, and joins what the crates below prove.
+#![tactic(auto)]
+
 ghost use Rattle.agreement.specs.Agreement.{Agreement};
 ghost use Rattle.agreement.specs.Carried.{Carried};
 

@@ -1,4 +1,6 @@
 // What the calls answer: how a run ended, or why a call was refused, each with its place.
+#![tactic(auto)]
+
 ghost use Rattle.std.specs.Prelude.{◌≡◌};
 ghost use Rattle.answer.specs.Numbers.{ending_number, reason_number, refused, no_place};
 

@@ -1,6 +1,8 @@
 // A board is where a run finds its inputs and leaves its readings.
 //
 // The trait says by ghost members what a board means; code above it is proved once, for every board.
+#![tactic(auto)]
+
 ghost use Rattle.std.specs.Prelude.{◌≡◌, ℕ, ◌≤◌, List, [], ◌∷◌, length, take, drop, ℤ, if◌then◌else◌};
 ghost use Rattle.std.specs.Borrow.{GName};
 ghost use Rattle.std.specs.List.{slice_get};

@@ -1,4 +1,6 @@
 // Lists of calls: made one after another on a new station, each with its entry beside it.
+#![tactic(auto)]
+
 ghost use Rattle.std.specs.Prelude.{◌≡◌, [], map, min, length};
 ghost use Rattle.agreement.specs.Agreement.{stack_words};
 ghost use Rattle.history.specs.Calls.{pass as passCall, plain_pass, packet_pass};

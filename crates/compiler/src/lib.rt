@@ -1,4 +1,6 @@
 // From tables to code: the check, and then the writer, in memory of a fixed size.
+#![tactic(auto)]
+
 ghost use Rattle.std.specs.Prelude.{◌≡◌, map, length};
 ghost use Rattle.compiler.specs.Compiled.{compiled, Holds, position_of};
 

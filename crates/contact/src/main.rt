@@ -1,4 +1,5 @@
 // The program `contact`: plays the contact file on standard input.
+#![tactic(auto)]
 
 fn main(rt: HostRuntime) -> anyhow::Result<()> {
     let played = contact_file::play(&rt);

@@ -1,4 +1,6 @@
 // Contact files: a line names a call, with the numbers that it is handed.
+#![tactic(auto)]
+
 mod lines;
 mod playing;
 

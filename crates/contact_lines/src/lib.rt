@@ -1,4 +1,6 @@
 // Contact files: a line names a call, with what it is handed.
+#![tactic(auto)]
+
 mod lines;
 
 pub use lines::{Execution, Fault, Line, PacketPass, SIZE_LIMIT, Trouble, read_line};

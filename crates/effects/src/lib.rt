@@ -1,4 +1,6 @@
 // What an instruction that may go does to the stack, the board and the registers.
+#![tactic(auto)]
+
 ghost use Rattle.std.specs.Prelude.{◌≡◌, ℕ, ◌+◌, ◌-◌, ◌<◌, ◌≤◌, true, false, length, replicate, ℤ, pos, ◌+ℤ◌, ◌-ℤ◌, ◌≤ℤ◌, ◌<ℤ◌, int_rem, slice_index_or, unsigned_abs};
 ghost use Rattle.std.proofs.Math.Seq.{paste};
 ghost use Rattle.board.specs.Meaning.{Framed};

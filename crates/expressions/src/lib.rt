@@ -1,4 +1,6 @@
 // The code of an expression, and of a list of arguments, written in front of a draft.
+#![tactic(auto)]
+
 ghost use Rattle.std.specs.Prelude.{◌≡◌, ℕ, ◌+◌, ◌^◌, ◌<◌, ◌≤◌, length, drop, sum};
 ghost use Rattle.script.specs.Limits.{max_words};
 ghost use Rattle.script.specs.Sound.{Sound};

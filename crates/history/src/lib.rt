@@ -2,6 +2,8 @@
 //
 // The definitions stand in specs/. No code of a station is read here: the promises are proved of every list of entries
 // that comes from runs under the calls' own allowances.
+#![tactic(auto)]
+
 ghost use Rattle.history.specs.Promises.{Promised, Once};
 
 use answer::{Answer, Refusal};

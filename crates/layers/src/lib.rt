@@ -1,4 +1,6 @@
 // Boards made of other boards: the twelve-bit layer over any board, and a board that is one of two.
+#![tactic(auto)]
+
 ghost use Rattle.std.specs.Prelude.{◌≡◌, ◌∷◌};
 ghost use Rattle.layers.specs.Layer.{twelve, lowered, Residue};
 ghost use Rattle.layers.specs.Either.{of_either};

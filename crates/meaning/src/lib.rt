@@ -1,4 +1,6 @@
 // What a script means stands in specs/; here are its laws. No code runs a tree: what is proved of compiled code is proved against these.
+#![tactic(auto)]
+
 ghost use Rattle.meaning.specs.Laws.{FreeRuns, FirstPart, Allowed, NeverOut};
 ghost use Rattle.meaning.specs.Examples.{Examples, Endless};
 

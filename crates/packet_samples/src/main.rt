@@ -1,5 +1,7 @@
 // Prints output packets as the library writes them, one a line: application number, sequence count, how many
 // readings, and the bytes in hexadecimal. An outside reader of the protocol is given these lines.
+#![tactic(auto)]
+
 use packet::{OutputId, write_readings};
 use std::alloc::{AllocError, Global};
 use std::io;

@@ -1,4 +1,6 @@
 // Worked packets and boards, with answers taken from the fields' definitions.
+#![tactic(auto)]
+
 #[cfg(test)]
 mod boards;
 #[cfg(test)]

@@ -1,4 +1,6 @@
 // A node of accepted tables, read once: what it is, the numbers that it names, and its children by their numbers.
+#![tactic(auto)]
+
 ghost use Rattle.std.specs.Prelude.{◌≡◌, ℕ, ◌<◌, List, length, unsigned_abs};
 ghost use Rattle.meaning.specs.Tables.{operator, expr_at, args_at, stmt_at};
 ghost use Rattle.script.specs.Shaped.{Children};

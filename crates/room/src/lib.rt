@@ -1,4 +1,6 @@
 // How much room a draft takes at most.
+#![tactic(auto)]
+
 ghost use Rattle.room.specs.Bound.{DraftsHaveRoom, LoopsHaveRoom};
 
 /// The cells that the draft of any accepted script takes at most: 19 for each node, two for each local and four for each function, and the

@@ -1,4 +1,6 @@
 // How a script is written as code stands in specs/; here are the facts about it. No code writes here: what the writer leaves is proved against these.
+#![tactic(auto)]
+
 ghost use Rattle.scheme.specs.Laws.{LabelsStay, JumpsForward, JumpsBack, LabelsFound, LengthsAgree, NumbersDecode};
 ghost use Rattle.scheme.specs.Examples.{Examples};
 

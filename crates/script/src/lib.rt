@@ -1,4 +1,6 @@
 // The tables that hold a script, functions, globals and nodes, and the check that accepts them.
+#![tactic(auto)]
+
 ghost use Rattle.std.specs.Prelude.{◌≡◌, true};
 ghost use Rattle.script.specs.Limits.{within_limits};
 ghost use Rattle.script.specs.Fault.{answer_of, nodes_fault, fault};

@@ -3,6 +3,8 @@
 // A line `function P L B`, `global N` or `node K A B C` adds a record to the tables, and the same after
 // `set I` takes the place of record I. Numbers left out are 0. A line `check` checks the tables as they
 // stand, `new` empties them, and a line `# text` is printed as it is.
+#![tactic(auto)]
+
 use script::{Function, Node, check};
 use std::alloc::Global;
 use std::io;

@@ -1,4 +1,6 @@
 // The board over two tables that it owns: for programs, whose lists of boards are made as they run.
+#![tactic(auto)]
+
 ghost use Rattle.std.specs.Prelude.{◌≡◌, ℕ, ◌<◌, ◌≤◌, true, [], ◌∷◌, ◌++◌, length, take, drop, vec_len, nat_lt};
 ghost use Rattle.std.specs.List.{slice_get};
 ghost use Rattle.board.specs.Meaning.{tabled};

@@ -1,4 +1,6 @@
 // What symbolic code does, against what the script means. The statement stands in specs/, the way to it in proofs/; no code runs here.
+#![tactic(auto)]
+
 ghost use Rattle.simulation.specs.Simulated.{Simulated};
 ghost use Rattle.simulation.specs.Nesting.{Roomy};
 

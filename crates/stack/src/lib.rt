@@ -6,6 +6,8 @@
 //
 // `over`, `capacity`, `top`, `push`, `pop` and `resize` ask nothing. The others ask for the room that
 // they use: they are for a caller that has made its own tests, in its own order.
+#![tactic(auto)]
+
 ghost use Rattle.std.specs.Prelude.{◌≡◌, ℕ, ◌+◌, ◌-◌, ◌<◌, ◌≤◌, length, replicate, if◌then◌else◌, nat_lt, slice_set, cond};
 ghost use Rattle.std.proofs.Math.Seq.{paste};
 ghost use Rattle.stack.specs.Entries.{top_of, opened, closed};

@@ -1,5 +1,7 @@
 // The code of a statement, written in front of a draft. The start of a loop is known only when the whole loop is written: until then it is on
 // the stack of open loops, and jumps to it name the loop.
+#![tactic(auto)]
+
 ghost use Rattle.std.specs.Prelude.{◌≡◌, ℕ, ◌+◌, ◌^◌, ◌<◌, ◌≤◌, length, take, drop};
 ghost use Rattle.script.specs.Sound.{Sound};
 ghost use Rattle.meaning.specs.Tables.{stmt_at};

@@ -1,4 +1,6 @@
 // The station: it loads a script, runs it on boards and on packets, and keeps its globals from one pass to the next.
+#![tactic(auto)]
+
 mod globals;
 mod held;
 mod known;

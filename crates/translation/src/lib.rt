@@ -1,4 +1,6 @@
 // What symbolic code does, the machine does on its words. The statements stand in specs/, the way to them in proofs/.
+#![tactic(auto)]
+
 ghost use Rattle.translation.specs.Translated.{Translated, PushedInOrder};
 
 /// Where the symbolic code of a script ends, the machine on its words ends so too.

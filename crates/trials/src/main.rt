@@ -1,4 +1,5 @@
 // The examples that the parts are held to: a contact file with cases for the machine, and tests.
+#![tactic(auto)]
 
 #[cfg(test)]
 mod tests;

@@ -1,4 +1,6 @@
 // The code of a whole script: its functions from the last to the first, the opening before them, and then the words.
+#![tactic(auto)]
+
 ghost use Rattle.std.specs.Prelude.{◌≡◌, ℕ, ◌+◌, ◌-◌, ◌*◌, ◌^◌, ◌<◌, ◌≤◌, [], map, length, drop, slice_index};
 ghost use Rattle.rules.specs.Limits.{code_limit};
 ghost use Rattle.script.specs.Limits.{max_functions, max_nodes};
