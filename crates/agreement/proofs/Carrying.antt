@@ -14,7 +14,7 @@ use Rattle.meaning.specs.Run.{Record, Starved, Free, run}
 use Rattle.meaning.proofs.Runs.{free_within, free_beyond, first_part}
 use Rattle.scheme.specs.Written.{written}
 use Rattle.agreement.specs.Agreement.{Agreed}
-use Rattle.agreement.specs.Carried.{Outcome, Carries, Carried, told}
+use Rattle.agreement.specs.Carried.{Carries, Carried}
 use Rattle.agreement.proofs.Joined.{agreement}
 
 -- two outcomes of one run are one

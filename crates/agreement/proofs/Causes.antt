@@ -1,12 +1,12 @@
 -- Symbolic code that fails does so for a cause of the script's own: a divisor, an index, a page, turns or depth.
-use Rattle.std.proofs.Common.{◌≡◌, ℕ, zero, suc, ◌+◌, ◌-◌, ◌<◌, ◌≤◌, max, Bool, true, false, List, [], ◌∷◌, ℤ, pos, negsuc, sym, subst, arith}
+use Rattle.std.proofs.Common.{◌≡◌, ℕ, zero, suc, ◌-◌, ◌≤◌, Bool, true, false, List, [], ◌∷◌, ℤ, pos, negsuc, sym, subst, arith}
 use Rattle.answer.specs.Numbers.{ending_number}
 use Rattle.answer.specs.declared.Ending.{Ending}
-use Rattle.answer.specs.declared.Ending.TheVariants.{DivisorZero, IndexOutside, PageFull, NoTurnLeft, TooDeep}
+use Rattle.answer.specs.declared.Ending.TheVariants.{TooDeep}
 use Rattle.board.specs.Meaning.{Means}
-use Rattle.scheme.specs.Code.{Code, Plain, Target, Item}
+use Rattle.scheme.specs.Code.{Code, Plain, Target}
 use Rattle.scheme.specs.Code
-use Rattle.symbolic.specs.Symbolic.{Rest, paid, Suffix, Finish, finished, failed, if, pop1, pop2, EndsIn, plainly, loads, goes, called, replaced, returned, return_to}
+use Rattle.symbolic.specs.Symbolic.{Rest, paid, Finish, finished, failed, if, pop1, pop2, EndsIn, plainly, loads, goes, called, replaced, return_to}
 
 abbrev pub Own : Finish → Type 0
 Own (finished v l d out T) = Unit {0}

@@ -1,32 +1,29 @@
 -- The theorem, from what is proved of accepted tables, of symbolic code and of its words.
-use Rattle.std.proofs.Common.{◌≡◌, ℕ, suc, ◌+◌, ◌-◌, ◌*◌, ◌^◌, ◌<◌, ◌≤◌, List, [], ◌∷◌, ◌++◌, length, get_or, take, drop, ℤ, pos, nat_abs, None, sum, sym, refl, ap, ◌∙◌, subst, arith}
+use Rattle.std.proofs.Common.{◌≡◌, ℕ, ◌-◌, ◌≤◌, List, [], ◌∷◌, length, get_or, ℤ, pos, nat_abs, sum, sym, refl, ap, ◌∙◌, subst, arith}
 use Rattle.answer.specs.Numbers.{ending_number, no_place}
-use Rattle.answer.specs.declared.Answer.{Answer}
 use Rattle.answer.specs.declared.Ending.{Ending}
 use Rattle.answer.specs.declared.Ending.TheVariants.{Finished}
 use Rattle.board.specs.Meaning.{Means}
-use Rattle.rules.specs.declared.Registers.{Registers}
 use Rattle.effects.specs.Effects.{State}
 use Rattle.machine.specs.Machine.{Ends}
-use Rattle.machine.specs.Execute.{starting, answered, value_of}
+use Rattle.machine.specs.Execute.{starting, answered}
 use Rattle.meaning.specs.Tree.{Script}
 use Rattle.meaning.specs.Tables.{script_of}
 use Rattle.meaning.specs.Steps.{Out, fine, ended}
-use Rattle.meaning.specs.Meaning.{showing}
-use Rattle.meaning.specs.Run.{Record, record_of, outcome}
-use Rattle.scheme.specs.Code.{Code, size}
+use Rattle.meaning.specs.Run.{record_of, outcome}
+use Rattle.scheme.specs.Code.{Code}
 use Rattle.scheme.specs.Scheme.{script_code}
-use Rattle.scheme.specs.Written.{Written, written, code_marks}
+use Rattle.scheme.specs.Written.{written, code_marks}
 use Rattle.symbolic.specs.Symbolic.{ends, onto, Finish, Rest}
 use Rattle.symbolic.specs.Symbolic
 use Rattle.symbolic.specs.Proper.{finish_of, Known}
 use Rattle.simulation.specs.Simulated.{resting}
 use Rattle.simulation.proofs.Program.{script_runs}
-use Rattle.translation.specs.Translated.{Does, Left, Holds, setup_of, state_at}
+use Rattle.translation.specs.Translated.{Does, Left}
 use Rattle.translation.proofs.Whole.{translated}
 use Rattle.translation.proofs.Front.{pushed_in_order, start_is}
 use Rattle.translation.proofs.Reading.{length-onto}
-use Rattle.accepted.specs.Accepted.{Ready, spare_words}
+use Rattle.accepted.specs.Accepted.{spare_words}
 use Rattle.accepted.proofs.Whole.{accepted}
 use Rattle.script.proofs.SoundLaws.{sound}
 use Rattle.agreement.specs.Agreement.{Agreement, Agreed, marked, stack_words}

@@ -12,7 +12,6 @@ use Rattle.script.specs.declared.Node.{Node}
 use Rattle.script.specs.Limits.{max_words}
 use Rattle.script.specs.Scope.{function_at}
 use Rattle.script.specs.Fault.{fault}
-use Rattle.meaning.specs.Tree.{Script}
 use Rattle.meaning.specs.Tables.{script_of}
 use Rattle.meaning.specs.Meaning.{showing}
 use Rattle.meaning.specs.Run.{Record, run}

@@ -1,5 +1,5 @@
 -- From the check's acceptance and the writer's answer to what was compiled.
-use Rattle.std.proofs.Common.{◌≡◌, ℕ, zero, suc, ◌+◌, ◌-◌, ◌<◌, ◌≤◌, Bool, true, false, cond, List, [], ◌∷◌, map, length, get_or, drop, ℤ, Some, None, Ok, Err, Option, Result, sym, refl, ap, ◌∙◌, arith, ltb-false}
+use Rattle.std.proofs.Common.{◌≡◌, ℕ, zero, suc, ◌+◌, ◌-◌, ◌<◌, Bool, false, cond, List, [], ◌∷◌, map, length, get_or, Some, None, Ok, Err, Option, Result, sym, refl, ap, ◌∙◌, arith, ltb-false}
 use Rattle.std.proofs.lemmas.List.{length-map}
 use Rattle.answer.specs.Numbers.{refused}
 use Rattle.answer.specs.declared.Reason.TheVariants.{CodeLength}
@@ -9,7 +9,7 @@ use Rattle.script.specs.declared.Function.{Function}
 use Rattle.script.specs.declared.Node.{Node}
 use Rattle.script.specs.Fault.{fault, answer_of}
 use Rattle.meaning.specs.Tree.{Script}
-use Rattle.meaning.specs.Tables.{script_of, function_of, parts}
+use Rattle.meaning.specs.Tables.{script_of}
 use Rattle.scheme.specs.Code.{Code, size}
 use Rattle.scheme.specs.Scheme.{script_code}
 use Rattle.scheme.specs.Written.{written, too_long, entries_from, entry_end}

@@ -1,5 +1,5 @@
 -- What comes of three tables: the refusal that is due, or their code.
-use Rattle.std.specs.Prelude.{◌≡◌, ℕ, ◌-◌, ◌<◌, false, List, length, drop, ℤ, Some, None, Ok, Err, Option, Result, slice_index}
+use Rattle.std.specs.Prelude.{◌≡◌, ℕ, ◌-◌, ◌<◌, false, List, length, drop, ℤ, Some, None, Err, Option, Result, slice_index}
 use Rattle.answer.specs.declared.Refusal.{Refusal}
 use Rattle.rules.specs.Limits.{code_limit}
 use Rattle.script.specs.declared.Function.{Function}

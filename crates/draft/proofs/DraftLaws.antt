@@ -1,20 +1,19 @@
 -- The operations on cells do to a draft what the scheme does to the symbolic code.
-use Rattle.std.proofs.Common.{◌≡◌, ℕ, zero, suc, ◌+◌, ◌-◌, ◌<◌, ◌≤◌, Bool, true, false, cond, eqb, List, [], ◌∷◌, ◌++◌, length, get_or, drop, ℤ, pos, negsuc, Some, None, Option, sym, refl, ap, ◌∙◌, arith}
+use Rattle.std.proofs.Common.{◌≡◌, ℕ, zero, ◌-◌, Bool, true, false, cond, eqb, List, [], ◌∷◌, length, ℤ, pos, Some, None, Option, sym, refl, ap, ◌∙◌, arith}
 use Rattle.meaning.specs.Words.{flag, is_zero, eq_z}
 use Rattle.scheme.specs.Code as S
 use Rattle.scheme.specs.Writing as W
 use Rattle.draft.specs.Cells.{cell, flagged, head_of, dead_cells, return_of}
-use Rattle.draft.specs.Operations.{reaches, place_mark, jump_put, go_put, goto_put, not_by, not_put, constant, plan_of, constant_by, constant_put, target_by, target_of, labelled_by, labelled_cells, exit_by, left_by, exit_of, left_cells, returned, exit_put}
-use Rattle.draft.specs.Draft.{place_of, laid, draft}
+use Rattle.draft.specs.Operations.{place_mark, jump_put, go_put, goto_put, not_by, not_put, constant, constant_by, constant_put, target_of, labelled_cells, exit_by, left_by, exit_of, left_cells, returned, exit_put}
+use Rattle.draft.specs.Draft.{place_of, draft}
 use Rattle.rules.specs.declared.Instruction.{Instruction}
 use Rattle.rules.specs.declared.Instruction.TheVariants.{Not, Goto, IfZero, IfNzro}
 use Rattle.draft.specs.declared.cells.Word.TheVariants.{Opcode}
 use Rattle.draft.specs.declared.put.Plan.{Plan}
-use Rattle.draft.specs.declared.put.Plan.TheVariants.{Write, Skip, Negate, Again, Jump}
+use Rattle.draft.specs.declared.put.Plan.TheVariants.{Write, Skip, Negate, Jump}
 use Rattle.draft.specs.declared.cells.Place.{Place}
 use Rattle.draft.specs.declared.cells.Place.TheVariants.{Behind, Loop}
 use Rattle.draft.specs.declared.cells.Cell.{Cell}
-use Rattle.draft.specs.declared.cells.Head.{Head}
 use Rattle.draft.specs.declared.cells.Head.TheVariants.{Other}
 
 length-flagged : (D : List Cell) → length (flagged D) ≡ length D

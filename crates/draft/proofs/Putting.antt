@@ -1,11 +1,9 @@
 -- The operations on cells, by what the code finds at the end of a table.
-use Rattle.std.proofs.Common.{◌≡◌, ℕ, zero, suc, ◌+◌, ◌-◌, ◌<◌, ◌≤◌, Bool, true, false, cond, List, [], ◌∷◌, ◌++◌, length, get_or, drop, ℤ, pos, negsuc, sym, refl, ap, ◌∙◌, arith, lit≤, length-drop}
-use Rattle.std.proofs.lemmas.List.{drop-drop}
+use Rattle.std.proofs.Common.{◌≡◌, ℕ, zero, ◌+◌, ◌-◌, ◌≤◌, Bool, true, false, cond, List, [], ◌∷◌, length, drop, ℤ, pos, sym, refl, ap, ◌∙◌, arith, lit≤, length-drop}
 use Rattle.std.proofs.lemmas.Bool.{cond-true, cond-false}
 use Rattle.meaning.specs.Words.{flag, is_zero, eq_z}
 use Rattle.draft.specs.Cells.{cell, head_of, dead_cells, flagged}
-use Rattle.draft.specs.Operations.{reaches, jump_put, go_put, goto_put, not_by, not_put, constant, planned, plan_of, off, constant_by, constant_put, target_by, target_of, labelled_by, labelled_cells}
-use Rattle.rules.specs.declared.Instruction.{Instruction}
+use Rattle.draft.specs.Operations.{reaches, jump_put, go_put, goto_put, not_by, not_put, constant, planned, plan_of, off, constant_by, constant_put, target_by, labelled_by}
 use Rattle.rules.specs.declared.Instruction.TheVariants.{Goto}
 use Rattle.draft.specs.declared.cells.Place.{Place}
 use Rattle.draft.specs.declared.cells.Cell.{Cell}
@@ -13,7 +11,7 @@ use Rattle.draft.specs.declared.cells.Place.TheVariants.{Behind}
 use Rattle.draft.specs.declared.cells.Head.{Head}
 use Rattle.draft.specs.declared.cells.Head.TheVariants.{Adds, Scales, Equals, Negates, Pops, JumpsZero, JumpsNonzero, Goes, Other}
 use Rattle.draft.specs.declared.put.Plan.{Plan}
-use Rattle.draft.specs.declared.put.Plan.TheVariants.{Write, Skip, Negate, Again, Jump}
+use Rattle.draft.specs.declared.put.Plan.TheVariants.{Write, Skip, Negate, Jump}
 use Rattle.draft.proofs.Widths.{wide, wide_at}
 
 pub goto-next : (xs : List Cell) (at p : ℕ) (to : Place) (m : ℕ) → drop p xs ≡ dead_cells (drop at xs) → true ≡ reaches to (length xs - p) → drop p xs ≡ goto_put to m (drop at xs)

@@ -1,7 +1,7 @@
 -- The table in which a draft stands, and what is read from it.
-use Rattle.std.proofs.Common.{◌≡◌, ℕ, zero, suc, ◌+◌, ◌-◌, ◌<◌, ◌≤◌, Bool, true, false, cond, List, [], ◌∷◌, ◌++◌, map, length, get_or, take, drop, set, sym, refl, ap, ◌∙◌, subst, add-zero, arith, length-append, length-drop}
+use Rattle.std.proofs.Common.{◌≡◌, ℕ, zero, ◌+◌, ◌-◌, ◌<◌, ◌≤◌, true, false, cond, List, [], ◌∷◌, ◌++◌, map, length, get_or, take, drop, set, sym, ap, ◌∙◌, add-zero, arith, length-drop}
 use borrow.Rule.Slice.PartMut.{put_mid, post_of}
-use Rattle.std.proofs.lemmas.List.{append-nil, drop_all, drop_at, drop-drop, take_rest, length-take-le, drop-set, drop_more, take_more_set, map_more, take_all, get_or-drop, get_or_default, get_or_past}
+use Rattle.std.proofs.lemmas.List.{append-nil, drop_all, drop_at, drop-drop, take_rest, length-take-le, drop-set, drop_more, take_more_set, map_more, take_all, get_or-drop}
 use Rattle.draft.specs.declared.cells.Cell.{Cell}
 use Rattle.std.proofs.lemmas.Bool.{cond-true, cond-false}
 use Rattle.rules.specs.declared.Instruction.TheVariants.{Csti}

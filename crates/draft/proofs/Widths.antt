@@ -1,6 +1,6 @@
 -- An instruction that stands in a draft has its operand there.
-use Rattle.std.proofs.Common.{◌≡◌, ℕ, zero, suc, ◌+◌, ◌-◌, ◌<◌, ◌≤◌, Bool, true, false, cond, List, [], ◌∷◌, ◌++◌, length, get_or, drop, ℤ, pos, sym, refl, ap, ◌∙◌, arith, lit≤, length-drop}
-use Rattle.draft.specs.Cells.{on_to, on_number, head_of_opcode, head_of_word, head_of_cells, head_of, no_cell}
+use Rattle.std.proofs.Common.{◌≡◌, ℕ, zero, ◌+◌, ◌-◌, ◌≤◌, Bool, true, false, cond, List, [], ◌∷◌, length, drop, ap, arith, lit≤, length-drop}
+use Rattle.draft.specs.Cells.{on_to, on_number, head_of_opcode, head_of_word, head_of}
 use Rattle.rules.specs.declared.Instruction.{Instruction}
 use Rattle.rules.specs.declared.Instruction.TheVariants.{Csti, Add, Sub, Mul, Div, Mod, Eq, Lt, Not, Dup, Swap, Ldi, Sti, GetBp, GetSp, IncSp, Goto, IfZero, IfNzro, Call, Tcall, Ret, Printi, LdArgs, Stop}
 use Rattle.draft.specs.declared.cells.Place.{Place}

@@ -1,5 +1,5 @@
 -- What is put in front of cells, as the scheme puts it in front of symbolic code.
-use Rattle.std.specs.Prelude.{ℕ, Bool, true, false, cond, List, [], ◌∷◌, length, drop, ℤ, pos, Some, None, Option, ◌==◌}
+use Rattle.std.specs.Prelude.{ℕ, Bool, false, cond, List, [], ◌∷◌, length, drop, ℤ, pos, Some, None, Option, ◌==◌}
 use Rattle.rules.specs.declared.Instruction.{Instruction}
 use Rattle.rules.specs.declared.Instruction.TheVariants.{Csti, Not, Goto, IfZero, IfNzro, Call, Tcall, Ret}
 use Rattle.meaning.specs.Words.{flag, is_zero, eq_z}

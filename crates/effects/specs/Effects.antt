@@ -1,5 +1,5 @@
 -- What an instruction that may go does to the state of the machine.
-use Rattle.std.specs.Prelude.{◌≡◌, ℕ, ◌+◌, ◌-◌, max, Bool, true, false, cond, not, List, length, replicate, ℤ, pos, ◌+ℤ◌, ◌-ℤ◌, ◌*ℤ◌, Some, None, Ok, Err, Option, Result, int_div, int_le, int_lt, int_rem, slice_index_or, slice_set, unsigned_abs}
+use Rattle.std.specs.Prelude.{◌≡◌, ℕ, ◌+◌, ◌-◌, max, Bool, cond, not, List, replicate, ℤ, pos, ◌+ℤ◌, ◌-ℤ◌, ◌*ℤ◌, Some, None, Ok, Err, Option, Result, int_div, int_le, int_lt, int_rem, slice_index_or, slice_set, unsigned_abs}
 use Rattle.std.specs.Int.{int_wrap, w32}
 use Rattle.std.proofs.Math.Seq.{paste}
 use Rattle.answer.specs.declared.Ending.{Ending}

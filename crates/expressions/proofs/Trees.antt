@@ -1,5 +1,5 @@
 -- The code of an expression, by the steps that write its parts.
-use Rattle.std.proofs.Common.{◌≡◌, ℕ, suc, List, [], ◌∷◌, get_or, ℤ, pos, sym, refl, ap, ◌∙◌}
+use Rattle.std.proofs.Common.{◌≡◌, ℕ, List, ◌∷◌, get_or, ℤ, pos, sym, ap, ◌∙◌}
 use Rattle.scheme.specs.Code as S
 use Rattle.scheme.specs.Writing as W
 use Rattle.scheme.specs.Scheme.{operator_code, local_code, element_code, count, expr_code, args_code}

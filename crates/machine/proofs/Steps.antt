@@ -10,7 +10,7 @@ use Rattle.rules.specs.declared.View.{View}
 use Rattle.rules.specs.declared.Instruction.{Instruction}
 use Rattle.rules.specs.Limits.{code_limit}
 use Rattle.rules.specs.Rules.{Puts, words, reading, Rule, rule, first, room, judged, verdict, decided, decode, Fits, Ready, among}
-use Rattle.effects.specs.Effects.{State, Next, goes, halts, effect, unless, late, performed, Tells}
+use Rattle.effects.specs.Effects.{State, Next, halts, effect, unless, late, performed, Tells}
 use Rattle.machine.specs.Machine.{Setup, view, acted, step}
 
 no_ending : {A : Type 0} {c : Ending} → Some c ≡ None → A

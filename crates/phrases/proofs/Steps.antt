@@ -1,5 +1,5 @@
 -- One thing put in front of a draft, against the scheme.
-use Rattle.std.proofs.Common.{◌≡◌, ℕ, ◌+◌, ◌-◌, List, [], ◌∷◌, length, ℤ, negsuc, sym, refl, ap, ◌∙◌}
+use Rattle.std.proofs.Common.{◌≡◌, ℕ, ◌-◌, List, ◌∷◌, length, ℤ, negsuc, sym, ap, ◌∙◌}
 use Rattle.scheme.specs.Code as S
 use Rattle.scheme.specs.Writing as W
 use Rattle.scheme.specs.Written.{instruction}
@@ -14,7 +14,7 @@ use Rattle.draft.specs.declared.cells.Place.TheVariants.{Behind}
 use Rattle.draft.specs.declared.cells.Cell.{Cell}
 use Rattle.draft.specs.declared.put.Exit.{Exit}
 use Rattle.draft.proofs.DraftLaws.{length-draft, draft-dead, draft-goto, draft_not, draft_cst, draft-labelled, draft-target, draft_left, draft_jump}
-use Rattle.phrases.specs.Turns.{Turns, Finds, IsWay}
+use Rattle.phrases.specs.Turns.{Turns}
 
 pub plain_step : (p : S.Plain) (m : ℕ) (D E : List Cell) → E ≡ cell (Opcode (instruction p)) m ∷ D → Turns D E (λ C. S.plain p m ∷ C)
 unfolding draft

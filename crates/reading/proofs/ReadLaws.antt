@@ -1,14 +1,14 @@
 -- What accepted tables say of the fields of a node.
-use Rattle.std.proofs.Common.{◌≡◌, ℕ, zero, suc, ◌+◌, ◌<◌, ◌≤◌, true, List, length, get_or, ℤ, pos, nat_abs, Some, sym, refl, ap, ◌∙◌, inl, inr, add-one, arith}
+use Rattle.std.proofs.Common.{◌≡◌, ℕ, zero, suc, ◌<◌, true, List, length, ℤ, pos, nat_abs, Some, sym, refl, ap, ◌∙◌, inl, inr, arith}
 use Rattle.std.proofs.lemmas.Bool.{cases_eq}
 use Rattle.std.proofs.lemmas.Bool.Decides.{nat_tests}
 use Rattle.script.specs.declared.Function.{Function}
 use Rattle.script.specs.declared.Node.{Node}
 use Rattle.script.specs.declared.kinds.Sort.{Sort}
-use Rattle.script.specs.declared.kinds.Sort.TheVariants.{Expression, Arguments, Statement}
-use Rattle.script.specs.Kinds.{call_kind, argument_kind, node_at, kind_at, is_of, want_a, want_b, want_c}
+use Rattle.script.specs.declared.kinds.Sort.TheVariants.{Expression, Arguments}
+use Rattle.script.specs.Kinds.{call_kind, node_at, kind_at, is_of, want_a, want_b, want_c}
 use Rattle.script.specs.Numbering.{number_at, numbers_below}
-use Rattle.script.specs.Scope.{arguments_by, arguments_of, function_at, names_local, root_of}
+use Rattle.script.specs.Scope.{arguments_by, arguments_of, function_at, names_local}
 use Rattle.script.specs.Shape.{names_global}
 use Rattle.script.specs.Shaped.{Number, Child, Children}
 use Rattle.script.specs.Sound.{Sound}

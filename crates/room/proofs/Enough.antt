@@ -1,18 +1,18 @@
 -- Every node is used once, so that the rooms of the bodies are together at most what the nodes take one by one.
-use Rattle.std.proofs.Common.{◌≡◌, ℕ, zero, suc, ◌+◌, ◌*◌, ◌<◌, ◌≤◌, Bool, true, false, cond, eqb, List, [], ◌∷◌, length, get_or, ℤ, pos, Some, None, sum_by, Option, sym, refl, ap, ◌∙◌, arith}
+use Rattle.std.proofs.Common.{◌≡◌, ℕ, suc, ◌+◌, ◌*◌, ◌<◌, ◌≤◌, true, cond, eqb, List, [], ◌∷◌, length, get_or, ℤ, Some, None, sum_by, Option, refl, ap, ◌∙◌, arith}
 use Rattle.std.proofs.lemmas.List.Sums.{sum_by-cons}
 use Rattle.std.proofs.lemmas.Bool.{cond-true, eq-eqb}
 use Rattle.script.specs.declared.Function.{Function}
 use Rattle.script.specs.declared.Node.{Node}
 use Rattle.script.specs.declared.kinds.Sort.{Sort}
-use Rattle.script.specs.Kinds.{no_node, node_at, kind_at, want_a, want_b, want_c}
-use Rattle.script.specs.Limits.{max_functions, max_locals}
+use Rattle.script.specs.Kinds.{no_node, node_at, want_a, want_b, want_c}
+use Rattle.script.specs.Limits.{max_locals}
 use Rattle.script.specs.Scope.{no_function, function_at}
 use Rattle.script.specs.Shaped.{Child}
 use Rattle.script.specs.Sound.{Sound}
 use Rattle.script.specs.Uses.{uses, child_uses, uses_as_child, uses_as_body}
-use Rattle.room.specs.Bound.{node_room, function_room, functions_room, draft_room, DraftsHaveRoom}
-use Rattle.room.proofs.Sums.{up_to, sum_le, weigh, weigh_same, weigh_add, weigh_has, weigh_sum, weigh_once, up_to_table}
+use Rattle.room.specs.Bound.{node_room, function_room, functions_room, DraftsHaveRoom}
+use Rattle.room.proofs.Sums.{up_to, sum_le, weigh, weigh_add, weigh_has, weigh_sum, weigh_once, up_to_table}
 use Rattle.room.proofs.Nodes.{room_at, in_field, below, stmt_room_lem, bounded}
 
 module _ (fs : List Function) (gs : List ℕ) (xs : List Node) (sound : Sound fs gs xs) where

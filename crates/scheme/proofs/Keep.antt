@@ -1,5 +1,5 @@
 -- Labelled code is never dropped.
-use Rattle.std.proofs.Common.{◌≡◌, ℕ, zero, suc, ◌+◌, ◌<◌, Bool, true, false, cond, eqb, List, [], ◌∷◌, length, get_or, ℤ, pos, refl, arith}
+use Rattle.std.proofs.Common.{◌≡◌, ℕ, zero, suc, ◌+◌, Bool, true, false, cond, eqb, List, [], ◌∷◌, length, get_or, ℤ, pos, refl, arith}
 use Rattle.answer.specs.Numbers.{no_place}
 use Rattle.meaning.specs.Words.{is_zero, flag, eq_z, Operator}
 use Rattle.meaning.specs.Words
@@ -8,9 +8,9 @@ use Rattle.meaning.specs.Tree.{Expr, Args, Stmt, Function}
 use Rattle.meaning.specs.Tree
 use Rattle.scheme.specs.Code.{Code, Target, Item, is_label, size, View, view, Front, front, Jumps, jumps}
 use Rattle.scheme.specs.Code
-use Rattle.scheme.specs.Writing.{dead, write_goto, add_goto, not_before, cst_before, add_not, add_cst, target_of, labelled_of, target, labelled, left_by, jump_by, and_before, and_way, or_before, or_way, short_way}
+use Rattle.scheme.specs.Writing.{dead, write_goto, add_goto, not_before, cst_before, add_not, add_cst, labelled_of, target, labelled, left_by, jump_by, and_before, and_way, or_before, or_way, short_way}
 use Rattle.scheme.specs.Scheme.{operator_code, element_code, count, expr_code, args_code, stmt_code, zeros_code, body_code, functions_code}
-use Rattle.scheme.specs.Laws.{Suffix, same, more, Labelled, Keeps}
+use Rattle.scheme.specs.Laws.{same, more, Labelled, Keeps}
 
 pub keeps_same : (C : Code) → Keeps C C
 keeps_same C D l s = s

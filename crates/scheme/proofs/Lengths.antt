@@ -1,5 +1,5 @@
 -- As many words, and as many marks, as the code is long.
-use Rattle.std.proofs.Common.{◌≡◌, ℕ, zero, suc, ◌+◌, List, [], ◌∷◌, ◌++◌, length, replicate, refl, ap, arith, length-append}
+use Rattle.std.proofs.Common.{◌≡◌, ℕ, zero, suc, [], ◌∷◌, length, replicate, refl, ap, arith, length-append}
 use lib.ListN.{length-replicate}
 use Rattle.scheme.specs.Code.{Code, Item, width, size}
 use Rattle.scheme.specs.Code

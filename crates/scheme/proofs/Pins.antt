@@ -6,9 +6,9 @@ use Rattle.meaning.specs.Words
 use Rattle.meaning.specs.Meaning.{first_word}
 use Rattle.meaning.specs.Tree.{Expr, Args, Stmt, Function, Script}
 use Rattle.meaning.specs.Tree
-use Rattle.scheme.specs.Code.{Code, Target, Item, is_label, width, size, View, view, Front, front, Jumps, jumps}
+use Rattle.scheme.specs.Code.{Code, Target, Item, size, View, view, Front, front, Jumps, jumps}
 use Rattle.scheme.specs.Code
-use Rattle.scheme.specs.Writing.{dead, write_goto, add_goto, not_before, cst_before, add_not, add_cst, target_of, labelled_of, target, labelled, left_by, jump_by, and_before, and_way, or_before, or_way, short_way}
+use Rattle.scheme.specs.Writing.{dead, write_goto, add_goto, not_before, cst_before, add_cst, labelled_of, target, labelled, left_by, jump_by, and_before, or_before, short_way}
 use Rattle.scheme.specs.Scheme.{operator_code, element_code, count, expr_code, args_code, stmt_code, zeros_code, body_code, functions_code, script_code}
 use Rattle.scheme.specs.Written.{sought, size_behind, none_of, loop_end, entry_end}
 use Rattle.scheme.specs.Laws.{Suffix, same, more, plus, whiles, all_whiles, tally, Distinct}

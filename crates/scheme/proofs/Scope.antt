@@ -5,11 +5,11 @@ use Rattle.meaning.specs.Words.{is_zero, flag, eq_z, Operator}
 use Rattle.meaning.specs.Words
 use Rattle.meaning.specs.Tree.{Expr, Args, Stmt, Function, Script}
 use Rattle.meaning.specs.Tree
-use Rattle.scheme.specs.Code.{Code, Target, Item, is_label, width, size, View, view, Front, front, Jumps, jumps}
+use Rattle.scheme.specs.Code.{Code, Target, Item, is_label, size, View, view, Front, front, Jumps, jumps}
 use Rattle.scheme.specs.Code
-use Rattle.scheme.specs.Writing.{dead, write_goto, add_goto, not_before, cst_before, add_not, add_cst, target_of, labelled_of, target, labelled, left_by, jump_by, and_before, and_way, or_before, or_way, short_way}
+use Rattle.scheme.specs.Writing.{dead, write_goto, add_goto, not_before, cst_before, add_cst, target_of, labelled_of, target, labelled, left_by, jump_by, and_before, and_way, or_before, or_way, short_way}
 use Rattle.scheme.specs.Scheme.{operator_code, element_code, expr_code, args_code, stmt_code, zeros_code, functions_code, script_code}
-use Rattle.scheme.specs.Laws.{Suffix, same, more, Labelled, Keeps, JumpTo, by_goto, by_ifzero, by_ifnzro}
+use Rattle.scheme.specs.Laws.{Suffix, same, more, Keeps, JumpTo, by_goto, by_ifzero, by_ifnzro}
 use Rattle.scheme.proofs.Keep.{keeps_trans, keeps_dead, keeps_GOTO, keeps_cst, keeps_labelled, keeps_jump, keeps_expr, keeps_stmt}
 
 abbrev pub In : ℕ → List ℕ → Type 0

@@ -1,7 +1,7 @@
 -- What is written in front of the code C that follows, and how that shortens it. A head counts only where no label stands between.
 use Rattle.std.specs.Prelude.{ℕ, cond, [], ◌∷◌, ℤ, pos, ◌==◌}
 use Rattle.meaning.specs.Words.{eq_z, is_zero, flag}
-use Rattle.scheme.specs.Code.{Code, Target, Item, is_label, size, View, view, Front, front, Jumps, jumps}
+use Rattle.scheme.specs.Code.{Code, Target, is_label, size, View, view, Front, front, Jumps, jumps}
 use Rattle.scheme.specs.Code
 
 -- code that is never reached goes, up to the next label

@@ -1,5 +1,5 @@
 -- The words of code: numbers with every target resolved to its position, and beside each word its mark.
-use Rattle.std.specs.Prelude.{ℕ, zero, suc, ◌-◌, Bool, false, cond, List, [], ◌∷◌, ◌++◌, map, length, replicate, ℤ, pos, negsuc, nat_eq, nat_lt}
+use Rattle.std.specs.Prelude.{ℕ, zero, suc, ◌-◌, Bool, false, cond, List, [], ◌∷◌, ◌++◌, length, replicate, ℤ, pos, negsuc, nat_eq, nat_lt}
 use Rattle.answer.specs.Numbers.{no_place}
 use Rattle.rules.specs.Limits.{code_limit}
 use Rattle.rules.specs.declared.Instruction.{Instruction}

@@ -1,5 +1,5 @@
 -- Expressions: what their code does is what they mean.
-use Rattle.std.proofs.Common.{◌≡◌, ℕ, suc, pred, ◌+◌, ◌≤◌, true, false, List, [], ◌∷◌, ◌++◌, length, get_or, ℤ, pos, nat_abs, sym, refl, ap, subst, arith}
+use Rattle.std.proofs.Common.{◌≡◌, ℕ, suc, pred, ◌+◌, ◌≤◌, true, false, List, ◌∷◌, ◌++◌, length, get_or, ℤ, pos, nat_abs, sym, refl, ap, subst, arith}
 use Rattle.meaning.specs.Words.{is_zero}
 use Rattle.meaning.specs.Tree.{Expr, Args}
 use Rattle.meaning.specs.Tree

@@ -1,6 +1,6 @@
 -- The machine for symbolic code, with all that a run leaves unchanged under one name; and ends of the whole code that are as long as each other
 -- run alike.
-use Rattle.std.proofs.Common.{◌≡◌, ℕ, zero, suc, ◌≤◌, ◌⊎◌, ◌↔◌, List, [], ◌∷◌, ℤ, pos, sym, inl, inr, arith}
+use Rattle.std.proofs.Common.{◌≡◌, ℕ, zero, suc, ◌≤◌, ◌⊎◌, ◌↔◌, List, ◌∷◌, ℤ, pos, sym, inl, inr, arith}
 use Rattle.board.specs.Meaning.{Means}
 use Rattle.meaning.specs.Tree.{Expr, Stmt}
 use Rattle.scheme.specs.Code.{Code, Target, Item, width, size, view}

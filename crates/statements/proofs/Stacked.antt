@@ -1,5 +1,5 @@
 -- The entry that was pushed before a part that keeps the stack is popped after it.
-use Rattle.std.proofs.Common.{◌≡◌, ℕ, zero, suc, ◌+◌, ◌<◌, ◌≤◌, List, length, get_or, take, set, Some, None, Option, sym, ap, ◌∙◌, add-one, arith, length-set, get_or-take}
+use Rattle.std.proofs.Common.{◌≡◌, ℕ, ◌+◌, ◌<◌, List, length, get_or, take, set, Some, None, Option, sym, ap, ◌∙◌, add-one, arith, length-set, get_or-take}
 use Rattle.std.proofs.lemmas.List.{get_or-set_same}
 use Rattle.std.proofs.lemmas.Option.{slice_get-get_or}
 use Rattle.stack.specs.Entries.{top_of}

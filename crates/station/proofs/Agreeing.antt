@@ -1,13 +1,12 @@
 -- A station that agrees with a state of the definition, and what its calls do to both.
 use Rattle.std.proofs.Common.{◌≡◌, ℕ, List, [], length, drop, replicate, ℤ, pos, Some, None, sum, Option, sym, refl, ap, ◌∙◌, subst, arith}
 use Rattle.std.proofs.lemmas.List.{length-replicate, nil_from_length}
-use Rattle.answer.specs.declared.Answer.{Answer}
 use Rattle.answer.specs.declared.Refusal.{Refusal}
 use Rattle.meaning.specs.Tree.{Script}
 use Rattle.history.specs.declared.Said.{Said}
-use Rattle.history.specs.declared.Said.TheVariants.{Done, Refused, Answered}
-use Rattle.history.specs.Calls.{Tables, Pass, Call, load, pass, clear, script_in, load_refusal, pass_refusal}
-use Rattle.history.specs.History.{State, cleared, holding, inputs_of, refusal, zeros}
+use Rattle.history.specs.declared.Said.TheVariants.{Done, Refused}
+use Rattle.history.specs.Calls.{Tables, Pass, Call, load, pass, clear, load_refusal, pass_refusal}
+use Rattle.history.specs.History.{State, cleared, inputs_of, refusal, zeros}
 use Rattle.history.specs.Promises.{Step, loads, passes, stepped}
 use Rattle.script.specs.Least.{or_else}
 use Rattle.station.specs.declared.held.Station.{Station}

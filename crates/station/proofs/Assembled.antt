@@ -1,5 +1,5 @@
 -- A pass, put together from its parts.
-use Rattle.std.proofs.Common.{◌≡◌, ℕ, ◌≤◌, List, ◌++◌, length, take, drop, ℤ, Some, None, Ok, Err, Option, Result, sym, refl, ap, ◌∙◌, subst, arith}
+use Rattle.std.proofs.Common.{◌≡◌, ℕ, List, ◌++◌, length, take, drop, ℤ, Some, None, Ok, Err, Option, Result, sym, refl, ap, ◌∙◌, subst, arith}
 use Rattle.std.proofs.lemmas.List.{take_at, drop_at}
 use Rattle.answer.specs.declared.Answer.{Answer}
 use Rattle.answer.specs.declared.Ending.{Ending}
@@ -8,12 +8,11 @@ use Rattle.board.specs.Meaning.{Means}
 use Rattle.machine.specs.declared.Allowance.{Allowance}
 use Rattle.machine.specs.Execute.{passes, starting, Ran, Executed}
 use Rattle.agreement.specs.Agreement.{stack_words, marked}
-use Rattle.history.specs.declared.Said.{Said}
 use Rattle.history.specs.declared.Said.TheVariants.{Refused}
 use Rattle.history.specs.History.{kept_by}
 use Rattle.station.specs.declared.held.Station.{Station}
 use Rattle.station.specs.Held.{globals_of, laid, code_of, marks_of, Kept}
-use Rattle.station.specs.Passed.{setup_of, touched, start_of, Passed, said_of}
+use Rattle.station.specs.Passed.{setup_of, start_of, Passed, said_of}
 
 -- the refusal that a check hands up is the one that is due
 pub due_of : (o : Option Refusal) (why : Refusal) → Err why ≡ passes o → o ≡ Some why

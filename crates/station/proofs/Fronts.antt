@@ -1,5 +1,5 @@
 -- Words at the front of others.
-use Rattle.std.proofs.Common.{◌≡◌, ℕ, ◌-◌, ◌<◌, ◌≤◌, min, ◌⊎◌, List, [], ◌++◌, length, take, drop, ℤ, sym, refl, ap, ◌∙◌, inl, inr, append-nil, arith, length-take}
+use Rattle.std.proofs.Common.{◌≡◌, ℕ, ◌-◌, ◌≤◌, min, List, ◌++◌, length, take, drop, ℤ, sym, ap, ◌∙◌, inl, inr, append-nil, arith, length-take}
 use Rattle.std.proofs.lemmas.List.{take_at, take_all, take_rest, drop_all}
 use Rattle.std.proofs.lemmas.Bool.{cases_lt}
 use Rattle.station.specs.Held.{laid}

@@ -1,5 +1,5 @@
 -- What an accepted load leaves is the code of its tables.
-use Rattle.std.proofs.Common.{◌≡◌, ℕ, zero, suc, ◌-◌, ◌<◌, ◌≤◌, min, Bool, true, false, cond, List, [], ◌∷◌, map, length, get_or, drop, ℤ, pos, Some, None, Ok, Err, sum, Option, Result, sym, refl, ap, ◌∙◌, subst, arith, ltb-false}
+use Rattle.std.proofs.Common.{◌≡◌, ℕ, zero, suc, ◌-◌, ◌<◌, ◌≤◌, Bool, true, false, cond, List, [], ◌∷◌, map, length, get_or, drop, ℤ, pos, Some, None, Ok, Err, sum, Option, Result, sym, refl, ap, ◌∙◌, arith, ltb-false}
 use Rattle.std.specs.List.{AllByRecursion as All}
 use Rattle.std.proofs.lemmas.List.{drop-map, get_or-map, length-replicate}
 use Rattle.answer.specs.Numbers.{no_place, refused}
@@ -7,18 +7,13 @@ use Rattle.answer.specs.declared.Reason.TheVariants.{CodeLength}
 use Rattle.answer.specs.declared.Refusal.{Refusal}
 use Rattle.rules.specs.Limits.{code_limit}
 use Rattle.script.specs.declared.Function.{Function}
-use Rattle.script.specs.declared.Node.{Node}
 use Rattle.script.specs.Fault.{fault}
 use Rattle.script.specs.Least.{or_else}
 use Rattle.script.specs.Scope.{function_at}
-use Rattle.script.specs.Sound.{Sound}
 use Rattle.script.proofs.SoundLaws.{sound}
-use Rattle.meaning.specs.Tree.{Script}
-use Rattle.meaning.specs.Tables.{script_of}
-use Rattle.meaning.specs.Meaning.{no_function}
 use Rattle.scheme.specs.Code.{Code, size}
 use Rattle.scheme.specs.Scheme.{script_code}
-use Rattle.scheme.specs.Written.{written, too_long, entries_from, entry_end}
+use Rattle.scheme.specs.Written.{written, too_long, entries_from}
 use Rattle.accepted.specs.Accepted.{ConstantsFit}
 use Rattle.accepted.proofs.Whole.{accepted}
 use Rattle.bounds.proofs.Marks.{marks_fit}
@@ -26,7 +21,7 @@ use Rattle.writer.specs.Program.{answered}
 use Rattle.compiler.specs.Compiled as compiler
 use Rattle.compiler.specs.Compiled.{unless, compiled}
 use Rattle.history.specs.Calls.{Tables, script_in, load_refusal}
-use Rattle.history.specs.History.{inputs_of, zeros}
+use Rattle.history.specs.History.{zeros}
 use Rattle.station.specs.declared.held.Station.{Station}
 use Rattle.station.specs.Held.{globals_of, Holds}
 use Rattle.station.specs.Filled.{narrowed, entered, Filled}

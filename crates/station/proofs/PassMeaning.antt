@@ -1,5 +1,5 @@
 -- What a pass does is what the script means.
-use Rattle.std.proofs.Common.{◌≡◌, ℕ, ◌+◌, ◌-◌, ◌*◌, ◌^◌, ◌<◌, ◌≤◌, min, List, [], ◌++◌, length, get_or, take, drop, ℤ, Some, None, sum, Option, sym, refl, ap, ◌∙◌, subst, arith, length-append, length-drop, length-take}
+use Rattle.std.proofs.Common.{◌≡◌, ℕ, ◌-◌, ◌≤◌, List, length, get_or, take, drop, ℤ, Some, None, Option, sym, refl, ap, ◌∙◌, subst, arith, length-append, length-drop, length-take}
 use Rattle.std.proofs.lemmas.List.{take_at, take-take, length-take-le}
 use Rattle.answer.specs.Numbers.{ending_number}
 use Rattle.answer.specs.declared.Answer.{Answer}
@@ -7,32 +7,31 @@ use Rattle.answer.specs.declared.Ending.{Ending}
 use Rattle.answer.specs.declared.Ending.TheVariants.{Finished, DivisorZero, IndexOutside, PageFull, NoTurnLeft, TooDeep, UnknownInstruction, OutsideCode, StackFull, TooFewWords, NoCaller, NegativeCount}
 use Rattle.answer.specs.declared.Refusal.{Refusal}
 use Rattle.board.specs.Meaning.{Means}
-use Rattle.rules.specs.declared.Registers.{Registers}
 use Rattle.effects.specs.Effects.{State as Machine}
 use Rattle.machine.specs.declared.Allowance.{Allowance}
 use Rattle.machine.specs.Machine.{Setup, Ends}
-use Rattle.machine.specs.Execute.{Ran, answered}
+use Rattle.machine.specs.Execute.{answered}
 use Rattle.machine.proofs.Outcome.{one_outcome}
 use Rattle.script.specs.Limits.{max_words}
 use Rattle.script.specs.Least.{or_else}
 use Rattle.script.specs.Fault.{fault}
 use Rattle.script.proofs.SoundLaws.{sound}
 use Rattle.meaning.specs.Tree.{Script}
-use Rattle.meaning.specs.Meaning.{showing, no_function}
+use Rattle.meaning.specs.Meaning.{no_function}
 use Rattle.meaning.specs.Run.{Record, run}
 use Rattle.scheme.specs.Written.{written}
 use Rattle.symbolic.specs.Proper.{Fit}
 use Rattle.accepted.proofs.Whole.{accepted}
-use Rattle.agreement.specs.Agreement.{stack_words, marked, Handed, Allows, Agreed}
+use Rattle.agreement.specs.Agreement.{stack_words, marked, Agreed}
 use Rattle.agreement.proofs.Joined.{agreement}
 use Rattle.bounds.proofs.Globals.{globals_stay}
 use Rattle.history.specs.declared.Said.TheVariants.{Answered}
-use Rattle.history.specs.Calls.{Tables, Pass, pass, script_in, load_refusal, pass_refusal}
-use Rattle.history.specs.History.{State, kept_by, after, refusal, of_loaded, loaded_in}
-use Rattle.history.specs.Promises.{Step, passes, ran, run_of, stepped}
+use Rattle.history.specs.Calls.{Tables, Pass, pass, script_in, pass_refusal}
+use Rattle.history.specs.History.{State, kept_by, refusal, of_loaded, loaded_in}
+use Rattle.history.specs.Promises.{passes, ran, run_of, stepped}
 use Rattle.station.specs.declared.held.Station.{Station}
-use Rattle.station.specs.Held.{globals_of, laid, code_of, marks_of, Holds, Loaded, Agrees, NeverFull, Does}
-use Rattle.station.specs.Passed.{setup_of, touched, start_of, Passed}
+use Rattle.station.specs.Held.{globals_of, laid, Holds, Loaded, Agrees, NeverFull, Does}
+use Rattle.station.specs.Passed.{touched, start_of, Passed}
 use Rattle.station.proofs.Agreeing.{kept_loaded, due_agrees, does_by}
 use Rattle.station.proofs.Clear.{clash, Clear, no_refusal}
 

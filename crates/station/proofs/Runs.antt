@@ -1,11 +1,10 @@
 -- The machine never refuses what a pass hands it.
-use Rattle.std.proofs.Common.{◌≡◌, ℕ, ◌≤◌, Bool, false, cond, ◌||◌, ltb, List, length, ℤ, Some, None, Ok, Err, Option, Result, sym, refl, ap, ◌∙◌, subst, le-ltb, MatchResult}
+use Rattle.std.proofs.Common.{◌≡◌, ℕ, ◌≤◌, false, ltb, List, length, ℤ, None, Ok, Err, Option, Result, sym, ◌∙◌, subst, le-ltb, MatchResult}
 use Rattle.answer.specs.declared.Answer.{Answer}
 use Rattle.answer.specs.declared.Refusal.{Refusal}
 use Rattle.board.specs.Meaning.{Means}
 use Rattle.rules.specs.Limits.{code_limit, stack_limit}
 use Rattle.machine.specs.declared.Allowance.{Allowance}
-use Rattle.machine.specs.Machine.{Setup}
 use Rattle.machine.specs.Execute.{refusal, starting, Ran, Executed}
 use Rattle.history.specs.Calls.{outside}
 use Rattle.station.proofs.Clear.{clash}

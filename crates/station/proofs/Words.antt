@@ -1,5 +1,5 @@
 -- Lists of words.
-use Rattle.std.proofs.Common.{◌≡◌, ℕ, zero, suc, ◌<◌, ◌≤◌, List, [], ◌∷◌, length, get_or, ℤ, pos, Some, None, Option, sym, subst, arith, w32, SFits}
+use Rattle.std.proofs.Common.{◌≡◌, ℕ, zero, suc, ◌<◌, ◌≤◌, List, [], ◌∷◌, length, get_or, ℤ, pos, Some, None, sym, subst, arith, w32, SFits}
 use Rattle.std.specs.List.{slice_get}
 use Rattle.symbolic.specs.Proper.{Fit}
 

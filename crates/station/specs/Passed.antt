@@ -1,5 +1,5 @@
 -- What a load and a pass leave behind, by the station's memory and the machine's definition.
-use Rattle.std.specs.Prelude.{◌≡◌, ℕ, List, length, take, drop, ℤ, Ok, Err, sum, Result}
+use Rattle.std.specs.Prelude.{◌≡◌, List, length, take, drop, ℤ, Ok, Err, sum, Result}
 use Rattle.answer.specs.declared.Answer.{Answer}
 use Rattle.answer.specs.declared.Refusal.{Refusal}
 use Rattle.board.specs.Meaning.{Means}

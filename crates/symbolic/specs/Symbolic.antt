@@ -1,6 +1,6 @@
 -- A machine for symbolic code: it runs the code that follows item by item, whether or not that stands where it will in the end; only jumps,
 -- calls and returns go to the whole code P. What an instruction rests on is asked of whoever runs it: room, the shape of the stack, words that fit.
-use Rattle.std.specs.Prelude.{ℕ, zero, suc, ◌+◌, ◌-◌, ◌≤◌, ◌<◌, pred, max, ◌≡◌, Bool, true, false, List, [], ◌∷◌, ◌++◌, length, eqb, ltb, ℤ, pos, negsuc}
+use Rattle.std.specs.Prelude.{ℕ, zero, suc, ◌+◌, ◌-◌, ◌≤◌, ◌<◌, max, ◌≡◌, Bool, true, false, List, [], ◌∷◌, ◌++◌, length, eqb, ltb, ℤ, pos, negsuc}
 use Rattle.std.specs.Int.{w32}
 use Rattle.std.proofs.Common.{SFits}
 use Rattle.answer.specs.declared.Ending.{Ending}

@@ -1,4 +1,4 @@
-use Rattle.std.proofs.Common.{◌≡◌, w32, SFits, rules}
+use Rattle.std.proofs.Common.{w32, SFits, rules}
 use Rattle.std.proofs.lemmas.Int.{to_z-of_z}
 use Rattle.expressions.proofs.Trees.{expr_turns, args_turns, constant_turns, local_turns, global_turns, element_turns, set_local_turns, set_global_turns, set_element_turns, negation_turns, print_turns, binary_turns, both_turns, either_turns, call_turns, none_turns, also_turns}
 use Rattle.expressions.proofs.+put_arguments_put_expression.Goals as goal

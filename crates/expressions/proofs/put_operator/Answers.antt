@@ -1,4 +1,4 @@
-use Rattle.std.proofs.Common.{◌≡◌, ◌∷◌, sym, ap, ◌∙◌, rules}
+use Rattle.std.proofs.Common.{◌∷◌, ap, rules}
 use Rattle.scheme.specs.Code as S
 use Rattle.scheme.specs.Writing as W
 use Rattle.phrases.proofs.Steps.{plain_step, not_step}

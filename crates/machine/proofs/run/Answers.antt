@@ -1,4 +1,4 @@
-use Rattle.std.proofs.Common.{length, sym, refl, ap, ◌∙◌, arith, rules}
+use Rattle.std.proofs.Common.{length, sym, refl, ap, ◌∙◌, arith}
 use Rattle.board.proofs.Frames.{framed-none, framed-more}
 use Rattle.machine.proofs.Falls.{falls}
 use Rattle.machine.proofs.Going.{onward, ended}

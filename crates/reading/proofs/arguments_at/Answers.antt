@@ -1,13 +1,10 @@
-use Rattle.std.proofs.Common.{◌≡◌, ℕ, sym, refl, ap, ◌∙◌, arith, w32, SFits, rules}
-use Rattle.std.proofs.lemmas.Int.{to_z-of_z}
+use Rattle.std.proofs.Common.{◌≡◌, refl, ap, rules}
 use Rattle.std.proofs.lemmas.Bool.Decides.{nat_tests}
-use Rattle.script.specs.Kinds.{node_at, kind_at}
-use Rattle.script.specs.declared.kinds.Sort.TheVariants.{Expression, Arguments, Statement}
+use Rattle.script.specs.Kinds.{kind_at}
+use Rattle.script.specs.declared.kinds.Sort.TheVariants.{Expression, Arguments}
 use Rattle.meaning.specs.Tree
-use Rattle.meaning.specs.Tables.{expr_at, args_at, stmt_at}
-use Rattle.reading.specs.Nodes.{operator_read, whiles}
-use Rattle.reading.specs.Room.{expr_room, args_room, stmt_room}
-use Rattle.reading.proofs.ReadLaws.{kid_a, kid_b, kid_c, global_in, local_in, function_in, call_in}
+use Rattle.reading.specs.Room.{args_room}
+use Rattle.reading.proofs.ReadLaws.{kid_a, kid_b}
 use Rattle.meaning.proofs.Decodes.{args_none, args_also}
 use Rattle.reading.proofs.arguments_at.Goals as goal
 

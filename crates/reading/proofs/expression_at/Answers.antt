@@ -1,13 +1,12 @@
-use Rattle.std.proofs.Common.{◌≡◌, ℕ, sym, refl, ap, ◌∙◌, arith, w32, SFits, rules}
+use Rattle.std.proofs.Common.{◌≡◌, ℕ, sym, refl, ap, ◌∙◌, w32, SFits, rules}
 use Rattle.std.proofs.lemmas.Int.{to_z-of_z}
 use Rattle.std.proofs.lemmas.Bool.Decides.{nat_tests}
 use Rattle.script.specs.Kinds.{node_at, kind_at}
-use Rattle.script.specs.declared.kinds.Sort.TheVariants.{Expression, Arguments, Statement}
+use Rattle.script.specs.declared.kinds.Sort.TheVariants.{Expression, Arguments}
 use Rattle.meaning.specs.Tree
-use Rattle.meaning.specs.Tables.{expr_at, args_at, stmt_at}
-use Rattle.reading.specs.Nodes.{operator_read, whiles}
-use Rattle.reading.specs.Room.{expr_room, args_room, stmt_room}
-use Rattle.reading.proofs.ReadLaws.{kid_a, kid_b, kid_c, global_in, local_in, function_in, call_in}
+use Rattle.meaning.specs.Tables.{expr_at, args_at}
+use Rattle.reading.specs.Room.{expr_room}
+use Rattle.reading.proofs.ReadLaws.{kid_a, kid_b, kid_c, global_in, local_in, call_in}
 use Rattle.meaning.proofs.Decodes.{expr_constant, expr_local, expr_global, expr_element, expr_set_local, expr_set_global, expr_set_element, expr_negation, expr_print, expr_binary, expr_both, expr_either, expr_call}
 use Rattle.reading.proofs.expression_at.Goals as goal
 

@@ -1,13 +1,12 @@
-use Rattle.std.proofs.Common.{◌≡◌, ℕ, ◌<◌, length, sym, refl, ap, ◌∙◌, arith, w32, SFits, rules}
-use Rattle.std.proofs.lemmas.Int.{to_z-of_z}
+use Rattle.std.proofs.Common.{◌≡◌, ℕ, ◌<◌, length, sym, refl, ap, ◌∙◌, arith, rules}
 use Rattle.std.proofs.lemmas.Bool.Decides.{nat_tests}
-use Rattle.script.specs.Kinds.{node_at, kind_at}
+use Rattle.script.specs.Kinds.{kind_at}
 use Rattle.script.specs.declared.kinds.Sort.TheVariants.{Expression, Arguments, Statement}
 use Rattle.meaning.specs.Tree
-use Rattle.meaning.specs.Tables.{expr_at, args_at, stmt_at}
-use Rattle.reading.specs.Nodes.{operator_read, whiles}
-use Rattle.reading.specs.Room.{expr_room, args_room, stmt_room}
-use Rattle.reading.proofs.ReadLaws.{kid_a, kid_b, kid_c, global_in, local_in, function_in, call_in}
+use Rattle.meaning.specs.Tables.{args_at}
+use Rattle.reading.specs.Nodes.{whiles}
+use Rattle.reading.specs.Room.{stmt_room}
+use Rattle.reading.proofs.ReadLaws.{kid_a, kid_b, kid_c, function_in, call_in}
 use Rattle.meaning.proofs.Decodes.{stmt_nothing, stmt_chain, stmt_discard, stmt_if, stmt_while, stmt_return, stmt_replace}
 use Rattle.reading.proofs.statement_at.Goals as goal
 

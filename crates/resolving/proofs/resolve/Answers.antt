@@ -1,4 +1,4 @@
-use Rattle.std.proofs.Common.{◌≡◌, ◌<◌, length, refl, ◌∙◌, arith, w32, SFits, rules}
+use Rattle.std.proofs.Common.{◌<◌, length, refl, ◌∙◌, w32, SFits, rules}
 use Rattle.std.proofs.lemmas.Int.{to_z-of_z}
 use Rattle.resolving.specs.Resolved.{cell_word, cell_mark}
 use Rattle.draft.proofs.Tables.{map_set_more, map_set_all, zero_cell}

@@ -1,4 +1,4 @@
-use Rattle.std.proofs.Common.{◌≡◌, ◌≤◌, map, length, take}
+use Rattle.std.proofs.Common.{◌≡◌, map, length, take}
 use Rattle.resolving.specs.Resolved.{cell_word, cell_mark}
 use Rattle.resolving.proofs.resolve.Given as goal
 

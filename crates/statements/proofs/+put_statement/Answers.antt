@@ -1,4 +1,4 @@
-use Rattle.std.proofs.Common.{◌≡◌, ℕ, ◌+◌, ◌-◌, ◌<◌, ◌≤◌, true, length, take, drop, set, sym, refl, ap, ◌∙◌, arith, length-drop, length-set, rules}
+use Rattle.std.proofs.Common.{◌≡◌, ℕ, ◌-◌, ◌<◌, true, length, take, drop, set, refl, ap, ◌∙◌, arith, length-drop, length-set, rules}
 use Rattle.std.proofs.lemmas.Bool.{cond-true, lt-ltb}
 use Rattle.scheme.specs.Scheme.{stmt_code}
 use Rattle.meaning.specs.Tables.{stmt_at}

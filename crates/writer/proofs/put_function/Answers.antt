@@ -1,4 +1,4 @@
-use Rattle.std.proofs.Common.{◌≡◌, ℕ, ◌+◌, ◌-◌, length, drop, length-drop, rules}
+use Rattle.std.proofs.Common.{◌≡◌, ◌+◌, ◌-◌, length, drop, length-drop, rules}
 use Rattle.meaning.specs.Tables.{stmt_at}
 use Rattle.writer.proofs.FunctionLaws.{function_turns, function_learns, function_enters}
 use Rattle.writer.proofs.put_function.Goals as goal

@@ -1,5 +1,4 @@
-use Rattle.std.proofs.Common.{◌≡◌, ℕ, ◌-◌, ◌≤◌, length, ap, ◌∙◌, arith, rules}
-use Rattle.script.specs.Limits.{max_nodes}
+use Rattle.std.proofs.Common.{◌-◌, length, ap, ◌∙◌, arith, rules}
 use Rattle.room.proofs.Enough.{room_suffices}
 use Rattle.room.proofs.Depth.{loops_fit}
 use Rattle.writer.proofs.write_script.Goals as goal

@@ -1,4 +1,4 @@
-use Rattle.std.proofs.Common.{◌<◌, length, sym, arith, rules}
+use Rattle.std.proofs.Common.{◌<◌, length, arith, rules}
 use Rattle.script.proofs.SoundLaws.{sound}
 use Rattle.compiler.proofs.Landing.{no_fault, started, entries_are}
 use Rattle.compiler.proofs.Compiler.compile.Goals as goal

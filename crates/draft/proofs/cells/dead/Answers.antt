@@ -1,4 +1,4 @@
-use Rattle.std.proofs.Common.{◌≡◌, sym, ap, ◌∙◌, arith, rules}
+use Rattle.std.proofs.Common.{◌∙◌, arith, rules}
 use Rattle.draft.proofs.Tables.{dead_skip, dead-stop, dead_end, zero_cell}
 use Rattle.draft.proofs.cells.dead.Goals as goal
 

@@ -1,8 +1,8 @@
-use Rattle.std.proofs.Common.{◌≡◌, ◌+◌, drop, ℤ, sym, ap, ◌∙◌, w32, SFits, rules}
+use Rattle.std.proofs.Common.{◌+◌, drop, sym, ap, ◌∙◌, w32, SFits, rules}
 use Rattle.std.proofs.lemmas.List.{drop-drop}
 use Rattle.std.proofs.lemmas.Int.{to_z-of_z}
 use Rattle.meaning.specs.Words.{flag, is_zero}
-use Rattle.draft.specs.Operations.{not_put, goto_put, constant_put, plan_of, constant}
+use Rattle.draft.specs.Operations.{not_put, goto_put, constant_put, constant}
 use Rattle.draft.proofs.Putting.{cst_at}
 use Rattle.draft.proofs.put.+put_constant.Goals as goal
 

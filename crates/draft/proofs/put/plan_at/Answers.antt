@@ -1,7 +1,5 @@
-use Rattle.std.proofs.Common.{◌≡◌, ℕ, ◌+◌, ◌≤◌, length, sym, ap, ◌∙◌, subst}
 use Rattle.std.proofs.lemmas.Int.{to_z-of_z}
 use Rattle.draft.specs.Operations.{off}
-use Rattle.draft.specs.declared.put.Plan.{Plan}
 use Rattle.draft.proofs.Putting.{plan_of_lem, off_at}
 use Rattle.draft.proofs.put.plan_at.Goals as goal
 

@@ -1,4 +1,4 @@
-use Rattle.std.proofs.Common.{◌≡◌, ◌-◌, length, drop, sym, ap, ◌∙◌, arith, length-drop, rules}
+use Rattle.std.proofs.Common.{◌≡◌, ◌-◌, length, drop, sym, ap, ◌∙◌, length-drop, rules}
 use Rattle.draft.specs.Operations.{labelled_by, target_by}
 use Rattle.draft.specs.declared.cells.Place.TheVariants.{Behind}
 use Rattle.draft.proofs.Putting.{label_other}

@@ -1,4 +1,4 @@
-use Rattle.std.proofs.Common.{◌-◌, [], ◌∷◌, ap, ◌∙◌, arith, rules}
+use Rattle.std.proofs.Common.{◌-◌, [], ◌∷◌, arith}
 use Rattle.draft.proofs.Tables.{laid_on}
 use Rattle.draft.proofs.put.put_one.Goals as goal
 

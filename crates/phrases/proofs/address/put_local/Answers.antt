@@ -1,4 +1,4 @@
-use Rattle.std.proofs.Common.{◌≡◌, ◌∷◌, drop, pos, nat_abs, ap, ◌∙◌, rules}
+use Rattle.std.proofs.Common.{◌∷◌, drop, pos, nat_abs, ap, ◌∙◌, rules}
 use Rattle.std.proofs.lemmas.Int.{to_z-of_z}
 use Rattle.scheme.specs.Code as S
 use Rattle.draft.specs.Operations.{constant_put}

@@ -1,4 +1,4 @@
-use Rattle.std.proofs.Common.{◌≡◌, drop, pos, ap, ◌∙◌, w32, SFits, rules}
+use Rattle.std.proofs.Common.{drop, pos, ap, ◌∙◌, w32, SFits, rules}
 use Rattle.std.proofs.lemmas.Int.{to_z-of_z}
 use Rattle.draft.specs.Operations.{constant_put}
 use Rattle.phrases.proofs.Steps.{cst_step}

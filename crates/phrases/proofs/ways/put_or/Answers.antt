@@ -1,4 +1,4 @@
-use Rattle.std.proofs.Common.{◌≡◌, drop, sym, ap, ◌∙◌, subst, rules}
+use Rattle.std.proofs.Common.{drop, sym, ap, ◌∙◌, subst, rules}
 use Rattle.std.proofs.lemmas.List.{drop-drop}
 use Rattle.scheme.specs.Code as S
 use Rattle.draft.specs.Cells.{head_of}

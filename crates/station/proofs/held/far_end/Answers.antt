@@ -1,4 +1,3 @@
-use Rattle.std.proofs.Common.{rules}
 use Rattle.station.proofs.Fronts.{far_end}
 use Rattle.station.proofs.held.far_end.Goals as goal
 

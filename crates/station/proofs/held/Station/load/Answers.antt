@@ -1,4 +1,4 @@
-use Rattle.std.proofs.Common.{◌≡◌, length, sym, refl, ap, ◌∙◌, arith}
+use Rattle.std.proofs.Common.{length, sym, refl, ap, ◌∙◌, arith}
 use Rattle.script.specs.Fault.{answer_of}
 use Rattle.script.proofs.SoundLaws.{sound}
 use Rattle.history.specs.Calls.{Tables}

@@ -1,14 +1,12 @@
-use Rattle.std.proofs.Common.{◌≡◌, ℕ, ◌-◌, ◌≤◌, List, ◌++◌, length, take, drop, ℤ, Some, None, Err, sym, refl, ap, ◌∙◌, subst, arith, length-append, length-drop, rules}
+use Rattle.std.proofs.Common.{◌≡◌, ℕ, ◌-◌, List, ◌++◌, length, take, drop, ℤ, Err, sym, refl, ap, ◌∙◌, subst, arith, length-append, length-drop, rules}
 use Rattle.std.proofs.lemmas.List.{length-take-le}
 use Rattle.std.proofs.lemmas.Result.{err_from_is_err_and}
-use Rattle.answer.specs.declared.Refusal.{Refusal}
 use Rattle.board.proofs.Frames.{framed-none}
-use Rattle.script.specs.Limits.{max_words}
 use Rattle.agreement.specs.Agreement.{stack_words}
 use Rattle.symbolic.specs.Proper.{Fit}
 use Rattle.history.specs.declared.Said.{Said}
 use Rattle.history.specs.Calls.{plain_pass, pass as passCall, pass_refusal}
-use Rattle.station.specs.Held.{globals_of, Does}
+use Rattle.station.specs.Held.{Does}
 use Rattle.station.proofs.Agreeing.{declined_does}
 use Rattle.station.proofs.Assembled.{due_of, none_due, tells_refused, says_refused, assembled}
 use Rattle.station.proofs.Clear.{asked}
