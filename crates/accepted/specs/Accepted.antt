@@ -1,6 +1,6 @@
 -- What the script in accepted tables can be relied on for.
 use Rattle.std.specs.Prelude.{◌≡◌, ℕ, suc, ◌<◌, List, length, None, sum, slice_index_or}
-use Rattle.std.specs.List.{AllByRecursion as All}
+use Rattle.std.specs.List.{AllByRecursion}
 use Rattle.script.specs.declared.Function.{Function as Row}
 use Rattle.script.specs.declared.Node.{Node}
 use Rattle.script.specs.Fault.{fault}
@@ -14,7 +14,7 @@ use Rattle.symbolic.specs.Proper.{Known, Proper, Distinct}
 
 -- every constant, a node of kind 0, is a 32-bit word
 abbrev pub ConstantsFit : List Node → Type 0
-ConstantsFit xs = All (λ x. x.kind ≡ 0 → Fits x.a) xs
+ConstantsFit xs = AllByRecursion (λ x. x.kind ≡ 0 → Fits x.a) xs
 
 -- the words that an expression may take above a function's locals: it takes at most one more than it nests deep
 abbrev pub spare_words : ℕ

@@ -2,7 +2,7 @@
 #![tactic(auto)]
 
 ghost use Rattle.std.specs.Prelude.{◌≡◌};
-ghost use Rattle.answer.specs.Numbers.{ending_number, reason_number, refused, no_place};
+ghost use Rattle.answer.specs.Numbers.{ending_number, reason_number, refused};
 
 use std::fmt;
 

@@ -1,6 +1,6 @@
 -- The trees that tables hold: their node numbers are 0 or those of the tables' nodes.
 use Rattle.std.proofs.Common.{ℕ, zero, suc, ◌+◌, ◌-◌, ◌<◌, Bool, true, false, cond, eqb, List, [], ◌∷◌, ◌++◌, map, length, get_or, ℤ, pos, negsuc, nat_abs, arith}
-use Rattle.std.specs.List.{AllByRecursion as All}
+use Rattle.std.specs.List.{AllByRecursion}
 use Rattle.std.proofs.ByRecursion.{All-push}
 use Rattle.std.proofs.lemmas.List.{length_push}
 use Rattle.script.specs.declared.Function.{Function as Row}
@@ -10,7 +10,7 @@ use Rattle.meaning.specs.Tables.{Part, no_part, child, operator, expr_of, args_o
 use Rattle.bounds.proofs.Numbered.{NumberedE, NumberedA, NumberedS}
 
 -- what holds of each element and of the default
-among : {X : Type 0} (Q : X → Type 0) (xs : List X) (i : ℕ) (d : X) → All Q xs → Q d → Q (get_or xs i d)
+among : {X : Type 0} (Q : X → Type 0) (xs : List X) (i : ℕ) (d : X) → AllByRecursion Q xs → Q d → Q (get_or xs i d)
 among Q [] i d h q = q
 among Q (x ∷ xs) zero d h q = h.0
 among Q (x ∷ xs) (suc i) d h q = among Q xs i d h.1 q
@@ -31,7 +31,7 @@ module _ (P : ℕ → Type 0) (first : P 0) where
   no_part_lem : NumberedP no_part
   no_part_lem = record { expr = first; args = first; stmt = first; returned = λ n h. h }
 
-  numbered-child : (before : List Part) (x : ℤ) → All NumberedP before → NumberedP (child before x)
+  numbered-child : (before : List Part) (x : ℤ) → AllByRecursion NumberedP before → NumberedP (child before x)
   numbered-child before (pos m) h = among NumberedP before m no_part h no_part_lem
   numbered-child before (negsuc m) h = no_part_lem
 
@@ -82,7 +82,7 @@ module _ (P : ℕ → Type 0) (first : P 0) where
     numbered-return : (m : ℕ) → P m → NumberedS P (return_of n x (expr_of n x a b c) b m)
     numbered-return m h = one (NumberedS P) (eqb x.kind 12) _ _ (h, here, pb.args) (h, numbered_expr)
 
-  numbered_next : (before : List Part) (x : Node) → P (length before) → All NumberedP before → NumberedP (part_after before x)
+  numbered_next : (before : List Part) (x : Node) → P (length before) → AllByRecursion NumberedP before → NumberedP (part_after before x)
   numbered_next before x here h =
       let a = numbered-child before x.a h in
       let b = numbered-child before x.b h in
@@ -94,7 +94,7 @@ module _ (P : ℕ → Type 0) (first : P 0) where
         returned = numbered-return (length before) here x _ _ _ a b c;
       }
 
-  numbered-after : (before : List Part) (xs : List Node) → ((n : ℕ) → n < length before + length xs → P n) → All NumberedP before → All NumberedP (parts_after before xs)
+  numbered-after : (before : List Part) (xs : List Node) → ((n : ℕ) → n < length before + length xs → P n) → AllByRecursion NumberedP before → AllByRecursion NumberedP (parts_after before xs)
   unfolding parts_after
   numbered-after before [] below h = h
   numbered-after before (x ∷ xs) below h =
@@ -102,9 +102,9 @@ module _ (P : ℕ → Type 0) (first : P 0) where
       numbered-after (before ++ (part_after before x ∷ [])) xs (λ n l. below n (omega arith))
       (All-push NumberedP before (part_after before x) h (numbered_next before x (below (length before) (omega arith)) h))
 
-  numbered_functions : (ps : List Part) (fs : List Row) → All NumberedP ps → All (λ fn. NumberedS P fn.body) (map (function_of ps) fs)
+  numbered_functions : (ps : List Part) (fs : List Row) → AllByRecursion NumberedP ps → AllByRecursion (λ fn. NumberedS P fn.body) (map (function_of ps) fs)
   numbered_functions ps [] h = tt
   numbered_functions ps (f ∷ fs) h = ((among NumberedP ps f.body no_part h no_part_lem).stmt, numbered_functions ps fs h)
 
-  pub numbered_script : (fs : List Row) (gs : List ℕ) (xs : List Node) → ((n : ℕ) → n < length xs → P n) → All (λ fn. NumberedS P fn.body) (script_of fs gs xs).functions
+  pub numbered_script : (fs : List Row) (gs : List ℕ) (xs : List Node) → ((n : ℕ) → n < length xs → P n) → AllByRecursion (λ fn. NumberedS P fn.body) (script_of fs gs xs).functions
   numbered_script fs gs xs below = numbered_functions (parts xs) fs (numbered-after [] xs (λ n l. below n (omega arith)) tt)

@@ -1,6 +1,6 @@
 -- Code whose marks all have a property.
 use Rattle.std.proofs.Common.{ℕ, zero, suc, [], ◌∷◌, replicate}
-use Rattle.std.specs.List.{AllByRecursion as All}
+use Rattle.std.specs.List.{AllByRecursion}
 use Rattle.std.proofs.ByRecursion.{All-append}
 use Rattle.answer.specs.Numbers.{no_place}
 use Rattle.scheme.specs.Code.{Code, Target, Item, width}
@@ -56,11 +56,11 @@ module _ (P : ℕ → Type 0) (none : P no_place) where
   item_mark (Code.loop_at w) h = none
   item_mark (Code.entry f) h = none
 
-  copies : (n m : ℕ) → P m → All P (replicate n m)
+  copies : (n m : ℕ) → P m → AllByRecursion P (replicate n m)
   copies zero m h = tt
   copies (suc n) m h = (h, copies n m h)
 
-  pub code_marks_lem : (C : Code) → Marked P C → All P (code_marks C)
+  pub code_marks_lem : (C : Code) → Marked P C → AllByRecursion P (code_marks C)
   code_marks_lem [] h = tt
   code_marks_lem (i ∷ C) h =
       All-append P (replicate (width i) (mark_of i)) (code_marks C) (copies (width i) (mark_of i) (item_mark i h.0)) (code_marks_lem C h.1)

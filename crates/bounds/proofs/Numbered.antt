@@ -1,6 +1,6 @@
 -- A tree whose node numbers all have a property gives code whose marks have it.
 use Rattle.std.proofs.Common.{ℕ, zero, suc, ◌+◌, List, [], ◌∷◌, get_or, pos}
-use Rattle.std.specs.List.{AllByRecursion as All}
+use Rattle.std.specs.List.{AllByRecursion}
 use Rattle.answer.specs.Numbers.{no_place}
 use Rattle.meaning.specs.Tree.{Expr, Args, Stmt, Function, Script}
 use Rattle.meaning.specs.Tree
@@ -100,7 +100,7 @@ module _ (P : ℕ → Type 0) (none : P no_place) where
   marked-zeros zero C h = h
   marked-zeros (suc k) C h = marked_cst P (pos 0) no_place (view (zeros_code k C)) none (marked-zeros k C h)
 
-  marked_functions : (lengths : List ℕ) (f : ℕ) (fns : List Function) → All (λ fn. NumberedS P fn.body) fns → Marked P (functions_code lengths f fns)
+  marked_functions : (lengths : List ℕ) (f : ℕ) (fns : List Function) → AllByRecursion (λ fn. NumberedS P fn.body) fns → Marked P (functions_code lengths f fns)
   unfolding functions_code
   marked_functions lengths f [] ps = tt
   marked_functions lengths f (fn ∷ fns) ps = (
@@ -109,6 +109,6 @@ module _ (P : ℕ → Type 0) (none : P no_place) where
         (marked_cst P (pos 0) no_place (view _) none (none, marked_dead P _ (marked_functions lengths (suc f) fns ps.1)))),
   )
 
-  pub marked_script : (s : Script) → All (λ fn. NumberedS P fn.body) s.functions → Marked P (script_code s)
+  pub marked_script : (s : Script) → AllByRecursion (λ fn. NumberedS P fn.body) s.functions → Marked P (script_code s)
   unfolding script_code
   marked_script s ps = (tt, (none, (tt, marked_functions s.lengths 0 s.functions ps)))

@@ -1,6 +1,6 @@
 -- What runs and code stay within.
 use Rattle.std.specs.Prelude.{◌≡◌, ℕ, ◌≤◌, List, length, ℤ, None}
-use Rattle.std.specs.List.{AllByRecursion as All}
+use Rattle.std.specs.List.{AllByRecursion}
 use Rattle.answer.specs.Numbers.{no_place}
 use Rattle.board.specs.Meaning.{Means}
 use Rattle.script.specs.declared.Function.{Function as Row}
@@ -13,7 +13,7 @@ use Rattle.scheme.specs.Written.{written}
 
 -- each mark of an accepted script's code is a node or none: it goes into 16 bits
 abbrev pub MarksFit : Type 0
-MarksFit = (fs : List Row) (gs : List ℕ) (xs : List Node) → fault fs gs xs ≡ None → All (λ m. m ≤ no_place) (written (script_of fs gs xs)).marks
+MarksFit = (fs : List Row) (gs : List ℕ) (xs : List Node) → fault fs gs xs ≡ None → AllByRecursion (λ m. m ≤ no_place) (written (script_of fs gs xs)).marks
 
 -- a run leaves as many globals as it was handed
 abbrev pub GlobalsStay : Type 0

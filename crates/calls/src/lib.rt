@@ -3,7 +3,7 @@
 
 ghost use Rattle.std.specs.Prelude.{◌≡◌, [], map, min, length};
 ghost use Rattle.agreement.specs.Agreement.{stack_words};
-ghost use Rattle.history.specs.Calls.{pass as passCall, plain_pass, packet_pass};
+ghost use Rattle.history.specs.Calls.{pass as pass_call, plain_pass, packet_pass};
 ghost use Rattle.history.specs.History.{State};
 ghost use Rattle.station.specs.Held.{Agrees, Does};
 ghost use Rattle.station.specs.Passed.{said_of};
@@ -65,7 +65,7 @@ fn hand_pass<B: Board>(
     board: &mut B,
 ) -> Result<Answer, Refusal>
     ensures does { (σ : State) → Agrees σ station.old →
-        Does σ (passCall (plain_pass allowed (min words (length stack.old)) (B.means board.old))) (said_of result) (B.means board.new).readings station.new }
+        Does σ (pass_call (plain_pass allowed (min words (length stack.old)) (B.means board.old))) (said_of result) (B.means board.new).readings station.new }
     ensures beyond { Beyond (stack_words allowed.depth) stack.old stack.new }
     ensures lent { B.lent board.new ≡ B.lent board.old }
 {

@@ -1,7 +1,7 @@
 // From tables to code: the check, and then the writer, in memory of a fixed size.
 #![tactic(auto)]
 
-ghost use Rattle.std.specs.Prelude.{◌≡◌, map, length};
+ghost use Rattle.std.specs.Prelude.{◌≡◌, map};
 ghost use Rattle.compiler.specs.Compiled.{compiled, Holds, position_of};
 
 use answer::Refusal;

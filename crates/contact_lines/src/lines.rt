@@ -1,5 +1,5 @@
 // One line of a contact file, read.
-ghost use Rattle.std.specs.Prelude.{◌≡◌, ◌≤◌, IfOk};
+ghost use Rattle.std.specs.Prelude.{◌≤◌, IfOk};
 ghost use Rattle.contact_lines.specs.Limited.{size_limit, Runnable, Packable, Limited, Digit};
 
 use machine::Allowance;

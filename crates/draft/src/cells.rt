@@ -1,5 +1,5 @@
 // The cells of a draft, one for each word of code that is being written, and what a draft begins with.
-ghost use Rattle.std.specs.Prelude.{◌≡◌, ℕ, ◌+◌, ◌^◌, ◌<◌, ◌≤◌, length, drop, slice_index_or};
+ghost use Rattle.std.specs.Prelude.{◌≡◌, ◌+◌, ◌^◌, ◌<◌, ◌≤◌, length, drop, slice_index_or};
 ghost use Rattle.draft.specs.Cells.{no_cell, cell, flagged, head_of_word, head_of, return_of_word, return_of, dead_cells};
 
 use rules::Instruction;

@@ -1,6 +1,6 @@
 // What is put in front of the code that begins at `at` and runs to the end of the table. Each answers where the code then begins. None can
 // fail for room: the caller has it. What stands in the table before the code is of no meaning.
-ghost use Rattle.std.specs.Prelude.{◌≡◌, ℕ, ◌+◌, ◌^◌, ◌<◌, ◌≤◌, [], ◌∷◌, length, drop};
+ghost use Rattle.std.specs.Prelude.{◌≡◌, ◌+◌, ◌^◌, ◌<◌, ◌≤◌, ◌∷◌, length, drop};
 ghost use Rattle.meaning.specs.Words.{is_zero, flag, eq_z};
 ghost use Rattle.draft.specs.Cells.{cell, dead_cells};
 ghost use Rattle.draft.specs.Operations.{place_mark, jump_put, reaches, goto_put, not_put, constant, planned, plan_of, off, constant_put, target_of, labelled_cells, exit_of, left_cells, returned, exit_put, called, replaced};

@@ -1,13 +1,13 @@
 // What an instruction that may go does to the stack, the board and the registers.
 #![tactic(auto)]
 
-ghost use Rattle.std.specs.Prelude.{◌≡◌, ℕ, ◌+◌, ◌-◌, ◌<◌, ◌≤◌, true, false, length, replicate, ℤ, pos, ◌+ℤ◌, ◌-ℤ◌, ◌≤ℤ◌, ◌<ℤ◌, int_rem, slice_index_or, unsigned_abs};
+ghost use Rattle.std.specs.Prelude.{◌≡◌, ◌+◌, ◌-◌, ◌<◌, ◌≤◌, true, false, length, replicate, ℤ, pos, ◌+ℤ◌, ◌-ℤ◌, ◌≤ℤ◌, ◌<ℤ◌, int_rem, slice_index_or, unsigned_abs};
 ghost use Rattle.std.proofs.Math.Seq.{paste};
 ghost use Rattle.board.specs.Meaning.{Framed};
 ghost use Rattle.rules.specs.Limits.{code_limit, depth_limit, stack_limit};
-ghost use Rattle.rules.specs.Rules.{among as amongFirst, is_zero as zeroWord, up, down, rule, Ready};
-ghost use Rattle.effects.specs.Effects.{state, performed, Tells, quotient as cutQuotient, truth as truth_of, same as sameWord};
-ghost use Rattle.effects.specs.Effects.{past as past_of, jumped as jumpedTo, branched as branchedTo, entered as entered_at, replaced as replacedBy, returned as returnedTo};
+ghost use Rattle.rules.specs.Rules.{among as among_first, is_zero as zero_word, up, down, rule, Ready};
+ghost use Rattle.effects.specs.Effects.{state, performed, Tells, quotient as cut_quotient, truth as truth_of, same as same_word};
+ghost use Rattle.effects.specs.Effects.{past as past_of, jumped as jumped_to, branched as branched_to, entered as entered_at, replaced as replaced_by, returned as returned_to};
 
 use answer::Ending;
 use board::Board;
@@ -26,7 +26,7 @@ fn past(r: Registers, operands: usize) -> Registers
 }
 
 fn jumped(r: Registers, p: i32) -> Registers
-    ensures { result ≡ jumpedTo r p }
+    ensures { result ≡ jumped_to r p }
 {
     Registers {
         position: p,
@@ -41,7 +41,7 @@ fn jumped(r: Registers, p: i32) -> Registers
 
 fn branched(r: Registers, p: i32, taken: bool) -> Registers
     requires { (pos 0 ≤ℤ r.position) × (r.position <ℤ pos code_limit) }
-    ensures { result ≡ branchedTo r p taken }
+    ensures { result ≡ branched_to r p taken }
 {
     if taken { jumped(r, p) } else { past(r, 1) }
 }
@@ -69,7 +69,7 @@ fn entered(r: Registers, p: i32, from: usize) -> Registers
 }
 
 fn replaced(r: Registers, p: i32) -> Registers
-    ensures { result ≡ replacedBy r p }
+    ensures { result ≡ replaced_by r p }
 {
     Registers {
         position: p,
@@ -79,7 +79,7 @@ fn replaced(r: Registers, p: i32) -> Registers
 }
 
 fn returned(r: Registers, p: i32, base: i32) -> Registers
-    ensures { result ≡ returnedTo r p base }
+    ensures { result ≡ returned_to r p base }
 {
     Registers {
         position: p,
@@ -96,26 +96,26 @@ fn truth(b: bool) -> i32
 }
 
 fn is_zero(v: i32) -> bool
-    ensures { result ≡ zeroWord v }
+    ensures { result ≡ zero_word v }
 {
     v == 0
 }
 
 fn same(a: i32, b: i32) -> bool
-    ensures { result ≡ sameWord a b }
+    ensures { result ≡ same_word a b }
 {
     a == b
 }
 
 fn quotient(a: i32, b: i32) -> i32
-    requires { zeroWord b ≡ false }
-    ensures { result ≡ cutQuotient a b }
+    requires { zero_word b ≡ false }
+    ensures { result ≡ cut_quotient a b }
 {
     a.wrapping_div(b)
 }
 
 fn remainder(a: i32, b: i32) -> i32
-    requires { zeroWord b ≡ false }
+    requires { zero_word b ≡ false }
     ensures { result ≡ int_rem a b }
 {
     a.wrapping_rem(b)
@@ -137,7 +137,7 @@ fn size(m: i32) -> usize
 
 /// The index that a number among the first `n` is.
 pub fn index(a: i32, n: usize) -> usize
-    requires { amongFirst a n ≡ true }
+    requires { among_first a n ≡ true }
     ensures is { result ≡ unsigned_abs a }
     ensures within { result < n }
 {

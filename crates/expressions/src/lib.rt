@@ -1,7 +1,7 @@
 // The code of an expression, and of a list of arguments, written in front of a draft.
 #![tactic(auto)]
 
-ghost use Rattle.std.specs.Prelude.{◌≡◌, ℕ, ◌+◌, ◌^◌, ◌<◌, ◌≤◌, length, drop, sum};
+ghost use Rattle.std.specs.Prelude.{◌≡◌, ◌+◌, ◌^◌, ◌<◌, ◌≤◌, length, drop, sum};
 ghost use Rattle.script.specs.Limits.{max_words};
 ghost use Rattle.script.specs.Sound.{Sound};
 ghost use Rattle.meaning.specs.Meaning.{first_word};

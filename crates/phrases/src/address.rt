@@ -1,5 +1,5 @@
 // The addresses of locals and of elements.
-ghost use Rattle.std.specs.Prelude.{◌≡◌, ℕ, ◌+◌, ◌^◌, ◌<◌, ◌≤◌, [], ◌∷◌, length, drop, ℤ, pos, negsuc, unsigned_abs};
+ghost use Rattle.std.specs.Prelude.{◌≡◌, ◌+◌, ◌^◌, ◌<◌, ◌≤◌, ◌∷◌, length, drop, pos, negsuc, unsigned_abs};
 ghost use Rattle.scheme.specs.Scheme.{local_code, element_code};
 ghost use Rattle.scheme.specs.Code as S;
 ghost use Rattle.scheme.specs.Writing as W;

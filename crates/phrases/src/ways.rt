@@ -1,5 +1,5 @@
 // The short ways out of && and ||: they go with a conditional jump that follows, or push the value that the first operand decides.
-ghost use Rattle.std.specs.Prelude.{◌≡◌, ℕ, ◌+◌, ◌^◌, ◌<◌, ◌≤◌, length, drop};
+ghost use Rattle.std.specs.Prelude.{◌+◌, ◌^◌, ◌<◌, ◌≤◌, length, drop};
 ghost use Rattle.scheme.specs.Writing.{short_way, and_way, or_way};
 ghost use Rattle.phrases.specs.Turns.{Finds};
 

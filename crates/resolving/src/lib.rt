@@ -1,7 +1,7 @@
 // The words and the marks of a finished draft: every place becomes a position.
 #![tactic(auto)]
 
-ghost use Rattle.std.specs.Prelude.{◌≡◌, ℕ, ◌-◌, ◌^◌, ◌<◌, map, length, pos, slice_index};
+ghost use Rattle.std.specs.Prelude.{◌≡◌, ◌-◌, ◌^◌, ◌<◌, map, length, pos, slice_index};
 ghost use Rattle.scheme.specs.Written.{number};
 ghost use Rattle.resolving.specs.Resolved.{length_to, word_of, cell_word, cell_mark};
 

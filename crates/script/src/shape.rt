@@ -1,5 +1,5 @@
 // Whether each node's kind, numbers and children fit where they stand, and each body is a statement.
-ghost use Rattle.std.specs.Prelude.{◌≡◌, ◌<◌, ◌≤◌, not, ◌&&◌, length};
+ghost use Rattle.std.specs.Prelude.{◌≡◌, ◌<◌, ◌≤◌, ◌&&◌, length};
 ghost use Rattle.script.specs.Limits.{max_nodes, max_functions};
 ghost use Rattle.script.specs.Shape.{below, child_fits, children_fit, names_global, names_word, named_fits, number_fits, body_fits, misshapen};
 ghost use Rattle.script.specs.Fault.{answer_of, shape_fault};

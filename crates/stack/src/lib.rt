@@ -8,7 +8,7 @@
 // they use: they are for a caller that has made its own tests, in its own order.
 #![tactic(auto)]
 
-ghost use Rattle.std.specs.Prelude.{◌≡◌, ℕ, ◌+◌, ◌-◌, ◌<◌, ◌≤◌, length, replicate, if◌then◌else◌, nat_lt, slice_set, cond};
+ghost use Rattle.std.specs.Prelude.{◌≡◌, ◌+◌, ◌-◌, ◌<◌, ◌≤◌, length, replicate, if◌then◌else◌, nat_lt, slice_set, cond};
 ghost use Rattle.std.proofs.Math.Seq.{paste};
 ghost use Rattle.stack.specs.Entries.{top_of, opened, closed};
 

@@ -2,7 +2,7 @@
 // the stack of open loops, and jumps to it name the loop.
 #![tactic(auto)]
 
-ghost use Rattle.std.specs.Prelude.{◌≡◌, ℕ, ◌+◌, ◌^◌, ◌<◌, ◌≤◌, length, take, drop};
+ghost use Rattle.std.specs.Prelude.{◌≡◌, ◌+◌, ◌^◌, ◌<◌, ◌≤◌, length, take, drop};
 ghost use Rattle.script.specs.Sound.{Sound};
 ghost use Rattle.meaning.specs.Tables.{stmt_at};
 ghost use Rattle.scheme.specs.Scheme.{stmt_code};

@@ -1,6 +1,6 @@
 -- What an accepted load leaves is the code of its tables.
 use Rattle.std.proofs.Common.{◌≡◌, ℕ, zero, suc, ◌-◌, ◌<◌, ◌≤◌, Bool, true, false, cond, List, [], ◌∷◌, map, length, get_or, drop, ℤ, pos, Some, None, Ok, Err, sum, Option, Result, sym, refl, ap, ◌∙◌, arith, ltb-false}
-use Rattle.std.specs.List.{AllByRecursion as All}
+use Rattle.std.specs.List.{AllByRecursion}
 use Rattle.std.proofs.lemmas.List.{drop-map, get_or-map, length-replicate}
 use Rattle.answer.specs.Numbers.{no_place, refused}
 use Rattle.answer.specs.declared.Reason.TheVariants.{CodeLength}
@@ -57,7 +57,7 @@ none-refused t start f =
     ∙ ap (λ (b : Bool). cond b (Some (refused CodeLength)) None) f.short
 
 -- marks that fit 16 bits are taken over as they are
-as_they_are : (ms : List ℕ) → All (λ m. m ≤ no_place) ms → map narrowed ms ≡ ms
+as_they_are : (ms : List ℕ) → AllByRecursion (λ m. m ≤ no_place) ms → map narrowed ms ≡ ms
 as_they_are [] h = refl
 as_they_are (m ∷ ms) h = let a = h.0 in let q : narrowed m ≡ m = omega arith in let r = as_they_are ms h.1 in cc
 

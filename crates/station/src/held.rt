@@ -1,8 +1,8 @@
 // The memory of a station, and what is done with it at once.
 ghost use Rattle.std.specs.Prelude.{◌≡◌, [], drop};
 ghost use Rattle.history.specs.declared.Said.TheVariants.{Done};
-ghost use Rattle.history.specs.Calls.{clear as clearCall};
-ghost use Rattle.history.specs.History.{State, start as startState};
+ghost use Rattle.history.specs.Calls.{clear as clear_call};
+ghost use Rattle.history.specs.History.{State, start as start_state};
 ghost use Rattle.station.specs.Held.{code_of, marks_of, Agrees, Does, Cleared};
 
 use crate::globals::Globals;
@@ -33,7 +33,7 @@ fn far_end<T>(table: &[T], from: usize) -> &[T]
 impl Station {
     /// A station with nothing loaded, and no globals.
     pub fn new() -> Station
-        ensures { Agrees startState result }
+        ensures { Agrees start_state result }
     {
         Station {
             code: [0; CODE_LIMIT],
@@ -71,7 +71,7 @@ impl Station {
     /// Sets all globals to 0.
     pub fn clear(&mut self)
         ensures left { Cleared self.old self.new }
-        ensures does { (σ : State) → Agrees σ self.old → Does σ clearCall Done [] self.new }
+        ensures does { (σ : State) → Agrees σ self.old → Does σ clear_call Done [] self.new }
     {
         self.globals.clear();
     }

@@ -1,7 +1,7 @@
 // A load: the tables of a script become code in the station's memory.
 ghost use Rattle.std.specs.Prelude.{◌≡◌, [], MatchResult};
 ghost use Rattle.script.specs.Fault.{answer_of};
-ghost use Rattle.history.specs.Calls.{load as loadCall, load_refusal};
+ghost use Rattle.history.specs.Calls.{load as load_call, load_refusal};
 ghost use Rattle.history.specs.History.{State};
 ghost use Rattle.station.specs.Held.{Agrees, Does};
 ghost use Rattle.station.specs.Passed.{LoadedFrom, done_of};
@@ -28,7 +28,7 @@ impl Station {
             (λ _. LoadedFrom (record { functions = functions.entry.now; lengths = globals.now; nodes = nodes.now }) self.new functions.exit.now)
             (λ _. (self.new ≡ self.old) × (functions.exit.now ≡ functions.entry.now)) }
         ensures does { (σ : State) → Agrees σ self.old →
-            Does σ (loadCall (record { functions = functions.entry.now; lengths = globals.now; nodes = nodes.now })) (done_of result) [] self.new }
+            Does σ (load_call (record { functions = functions.entry.now; lengths = globals.now; nodes = nodes.now })) (done_of result) [] self.new }
     {
         let mut compiler = Compiler::new();
         let start = compiler.compile(functions, globals, nodes)?;

@@ -5,8 +5,8 @@ ghost use Rattle.board.specs.Meaning.{Framed};
 ghost use Rattle.rules.specs.Limits.{code_limit};
 ghost use Rattle.script.specs.Limits.{max_words};
 ghost use Rattle.machine.specs.Execute.{passes, starting, Ran, Executed};
-ghost use Rattle.agreement.specs.Agreement.{stack_words, marked as byMarks};
-ghost use Rattle.history.specs.Calls.{pass as passCall, plain_pass, outside, pass_refusal};
+ghost use Rattle.agreement.specs.Agreement.{stack_words, marked as by_marks};
+ghost use Rattle.history.specs.Calls.{pass as pass_call, plain_pass, outside, pass_refusal};
 ghost use Rattle.history.specs.History.{State, kept_by};
 ghost use Rattle.station.specs.Held.{globals_of, laid, marks_of, Kept, Agrees, Does};
 ghost use Rattle.station.specs.Passed.{Passed, said_of};
@@ -74,7 +74,7 @@ fn mark_at(marks: &[u16], position: i32) -> i32
 
 // an answer by positions, told by marks
 fn marked(marks: &[u16], ended: Answer) -> Answer
-    ensures { result ≡ byMarks marks.now ended }
+    ensures { result ≡ by_marks marks.now ended }
 {
     Answer {
         place: mark_at(marks, ended.place),
@@ -129,7 +129,7 @@ impl Station {
             ((self.new ≡ self.old) × (stack.new ≡ stack.old) × (board.new ≡ board.old))
             (λ a. Passed self.old self.new allowed stack.old stack.new (B.means board.old) (B.means board.new) a) }
         ensures does { (σ : State) → Agrees σ self.old →
-            Does σ (passCall (plain_pass allowed (length stack.old) (B.means board.old))) (said_of result) (B.means board.new).readings self.new }
+            Does σ (pass_call (plain_pass allowed (length stack.old) (B.means board.old))) (said_of result) (B.means board.new).readings self.new }
         ensures lent { B.lent board.new ≡ B.lent board.old }
         ensures beside { Framed (B.means board.old).readings (B.means board.new).readings (B.beside board.old) (B.beside board.new) }
     {

@@ -5,7 +5,7 @@ use Rattle.board.proofs.Frames.{framed-none}
 use Rattle.agreement.specs.Agreement.{stack_words}
 use Rattle.symbolic.specs.Proper.{Fit}
 use Rattle.history.specs.declared.Said.{Said}
-use Rattle.history.specs.Calls.{plain_pass, pass as passCall, pass_refusal}
+use Rattle.history.specs.Calls.{plain_pass, pass as pass_call, pass_refusal}
 use Rattle.station.specs.Held.{Does}
 use Rattle.station.proofs.Agreeing.{declined_does}
 use Rattle.station.proofs.Assembled.{due_of, none_due, tells_refused, says_refused, assembled}
@@ -25,7 +25,7 @@ returns-in_err-check g c =
     record {
       tells = tells_refused c.from_residual.result _ c.in_err-check.field-0.0 _ _ e due (refl, refl, refl);
       does = λ σ a.
-          subst (λ (x : Said). Does σ (passCall (plain_pass c.args.allowed (length c.args.stack.now) m)) x m.readings s)
+          subst (λ (x : Said). Does σ (pass_call (plain_pass c.args.allowed (length c.args.stack.now) m)) x m.readings s)
           (says_refused c.from_residual.result c.in_err-check.field-0.0 e)
           (declined_does s (plain_pass c.args.allowed (length c.args.stack.now) m) c.in_err-check.field-0.0 due σ a);
       lent = refl;
