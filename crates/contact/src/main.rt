@@ -1,10 +1,15 @@
 // The program `contact`: plays the contact file on standard input.
 #![tactic(auto)]
 
-fn main(rt: HostRuntime) -> anyhow::Result<()> {
-    let played = contact_file::play(&rt);
-    if let Err(wrong) = &played {
-        eprintln!(rt; "{wrong}")?;
+use std::process::ExitCode;
+
+fn main(rt: HostRuntime) -> ExitCode {
+    match contact_file::play(&rt) {
+        Ok(()) => ExitCode::SUCCESS,
+        Err(wrong) => {
+            // Where standard error takes nothing either, the status alone tells that something is wrong.
+            let _ = eprintln!(rt; "{wrong}");
+            ExitCode::FAILURE
+        }
     }
-    played
 }

@@ -168,7 +168,7 @@ fn lines_are_read(rt: HostRuntime) -> Result<(), Fail> {
     let Ok(Line::Code(code)) = read_line(heap, "  code 24  -2147483648 2147483647") else {
         return Err(Fail::new("no code"));
     };
-    assert_eq!(rt; code.as_slice(), &[24, -2147483648, 2147483647]);
+    assert_eq!(rt; code.as_slice(), [24, -2147483648, 2147483647].as_slice());
     let Ok(Line::Words(words)) = read_line(heap, "words") else {
         return Err(Fail::new("no words"));
     };
@@ -198,7 +198,7 @@ fn lines_are_read(rt: HostRuntime) -> Result<(), Fail> {
     assert_eq!(rt; asked.allowed.depth, 33);
     assert_eq!(rt; asked.stack, 1_000_000);
     assert_eq!(rt; asked.page, 7);
-    assert_eq!(rt; asked.inputs.as_slice(), &[-1, 5]);
+    assert_eq!(rt; asked.inputs.as_slice(), [-1, 5].as_slice());
     Ok(())
 }
 
