@@ -1,5 +1,6 @@
 -- The numbers by which endings and refusals are known outside.
-use Rattle.std.specs.Prelude.{ℕ}
+use Rattle.std.specs.Prelude.{ℕ, Some, None, Option}
+use Rattle.std.specs.Option.{unwrap_or}
 use Rattle.answer.specs.declared.Ending.{Ending}
 use Rattle.answer.specs.declared.Ending.TheVariants.{Finished, DivisorZero, IndexOutside, PageFull, NoTurnLeft, TooDeep, UnknownInstruction, OutsideCode, StackFull, TooFewWords, NoCaller, NegativeCount}
 use Rattle.answer.specs.declared.Reason.{Reason}
@@ -38,9 +39,17 @@ reason_number HeaderFlags = 42
 reason_number OutputLength = 43
 reason_number OutputHeader = 44
 
--- what a refusal names where no node is at fault
+-- the number by which no place is known
 abbrev pub no_place : ℕ
 no_place = 65535
 
+-- the number by which the place of a refusal is known: that of the node at fault, if one is
+abbrev pub place_number : Option ℕ → ℕ
+place_number place = unwrap_or place no_place
+
+-- a refusal that names no node, and one that names a node
 abbrev pub refused : Reason → Refusal
-refused why = record { reason = why; place = no_place }
+refused why = record { reason = why; place = None }
+
+abbrev pub refused_at : Reason → ℕ → Refusal
+refused_at why n = record { reason = why; place = Some n }

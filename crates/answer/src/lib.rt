@@ -2,40 +2,40 @@
 #![tactic(auto)]
 
 ghost use Rattle.std.specs.Prelude.{◌≡◌};
-ghost use Rattle.answer.specs.Numbers.{ending_number, reason_number, refused};
+ghost use Rattle.answer.specs.Numbers.{ending_number, reason_number, place_number, refused, refused_at};
 
 use std::fmt;
 
-/// The place that a refusal or an ending names when there is no particular one.
+/// The number by which no place is known outside: what a refusal or an ending names when there is no particular one.
 pub const NO_PLACE: u32 = 65_535;
 
 /// How a run ended.
 #[derive(Clone, Copy, PartialEq, Eq, Debug)]
 pub enum Ending {
     /// STOP was reached, or main returned.
-    Finished,
+    Finished = 0,
     /// A division or a remainder by 0.
-    DivisorZero,
+    DivisorZero = 1,
     /// An index outside its global, an address outside the words in use.
-    IndexOutside,
+    IndexOutside = 2,
     /// A print on a board that has as many readings as its page.
-    PageFull,
+    PageFull = 3,
     /// A call or a jump back with no turn left.
-    NoTurnLeft,
+    NoTurnLeft = 4,
     /// A call that would go deeper than allowed.
-    TooDeep,
+    TooDeep = 5,
     /// A number that is no instruction's.
-    UnknownInstruction,
+    UnknownInstruction = 6,
     /// A position outside the code, or an operand that the code lacks.
-    OutsideCode,
+    OutsideCode = 7,
     /// No room on the stack for what an instruction puts there.
-    StackFull,
+    StackFull = 8,
     /// Fewer words on the stack than an instruction takes.
-    TooFewWords,
+    TooFewWords = 9,
     /// A return where nothing was called.
-    NoCaller,
+    NoCaller = 10,
     /// A negative count of words in a call or a return.
-    NegativeCount,
+    NegativeCount = 11,
 }
 
 impl Ending {
@@ -43,20 +43,7 @@ impl Ending {
     pub fn number(self) -> u8
         ensures { result ≡ ending_number self }
     {
-        match self {
-            Ending::Finished => 0,
-            Ending::DivisorZero => 1,
-            Ending::IndexOutside => 2,
-            Ending::PageFull => 3,
-            Ending::NoTurnLeft => 4,
-            Ending::TooDeep => 5,
-            Ending::UnknownInstruction => 6,
-            Ending::OutsideCode => 7,
-            Ending::StackFull => 8,
-            Ending::TooFewWords => 9,
-            Ending::NoCaller => 10,
-            Ending::NegativeCount => 11,
-        }
+        self as u8
     }
 }
 
@@ -64,9 +51,10 @@ impl Ending {
 #[derive(Clone, Copy, PartialEq, Eq, Debug)]
 pub struct Answer {
     pub ending: Ending,
-    /// Where the run ended: a position in loose code, which may lie outside it; a node of a script.
+    /// Where the run ended: a position in loose code, which may lie outside it; a node of a script, or `NO_PLACE`. It is no option, since
+    /// a position may be any word.
     pub place: i32,
-    /// The value of a finished run, else 0.
+    /// The value of a finished run, else 0: the answer goes out with a value whatever the ending.
     pub value: i32,
     /// Turns spent.
     pub turns: u32,
@@ -78,37 +66,37 @@ pub struct Answer {
 #[derive(Clone, Copy, PartialEq, Eq, Debug)]
 pub enum Reason {
     /// A table, a count or a body's number outside its limits.
-    Limits,
+    Limits = 20,
     /// A kind, a number or a sort that does not fit where it stands.
-    Shape,
+    Shape = 21,
     /// A node that is not used exactly once.
-    Uses,
+    Uses = 22,
     /// A wrong count of arguments, or a local that its function lacks.
-    Scope,
+    Scope = 23,
     /// Expressions that nest too deep.
-    Nesting,
+    Nesting = 24,
     /// Code that is too long.
-    CodeLength,
+    CodeLength = 25,
     /// No script is loaded.
-    NothingLoaded,
+    NothingLoaded = 30,
     /// Turns or depth outside what may be allowed.
-    Allowance,
+    Allowance = 31,
     /// A stack that is too short for the depth allowed.
-    StackLength,
+    StackLength = 32,
     /// Another number of inputs than main takes.
-    InputCount,
+    InputCount = 33,
     /// Loose code, or a stack, that is too long, or more starting words than stack.
-    Sizes,
+    Sizes = 34,
     /// A packet of another length than one with 1 to 8 counts.
-    PacketLength,
+    PacketLength = 40,
     /// A length field that does not tell the packet's length.
-    LengthField,
+    LengthField = 41,
     /// A version, a type or a secondary header flag that is not 0.
-    HeaderFlags,
+    HeaderFlags = 42,
     /// An output without room for a header.
-    OutputLength,
+    OutputLength = 43,
     /// An application number or a sequence count that an output packet cannot have.
-    OutputHeader,
+    OutputHeader = 44,
 }
 
 impl Reason {
@@ -116,32 +104,15 @@ impl Reason {
     pub fn number(self) -> u8
         ensures { result ≡ reason_number self }
     {
-        match self {
-            Reason::Limits => 20,
-            Reason::Shape => 21,
-            Reason::Uses => 22,
-            Reason::Scope => 23,
-            Reason::Nesting => 24,
-            Reason::CodeLength => 25,
-            Reason::NothingLoaded => 30,
-            Reason::Allowance => 31,
-            Reason::StackLength => 32,
-            Reason::InputCount => 33,
-            Reason::Sizes => 34,
-            Reason::PacketLength => 40,
-            Reason::LengthField => 41,
-            Reason::HeaderFlags => 42,
-            Reason::OutputLength => 43,
-            Reason::OutputHeader => 44,
-        }
+        self as u8
     }
 }
 
-/// A refusal: its reason, and the node at fault or `NO_PLACE`.
+/// A refusal: its reason, and the node at fault, if one is.
 #[derive(Clone, Copy, PartialEq, Eq, Debug)]
 pub struct Refusal {
     pub reason: Reason,
-    pub place: u32,
+    pub place: Option<u32>,
 }
 
 impl Refusal {
@@ -151,8 +122,25 @@ impl Refusal {
     {
         Refusal {
             reason,
-            place: NO_PLACE,
+            place: None,
         }
+    }
+
+    /// A refusal for what is wrong with a node.
+    pub fn at(reason: Reason, node: u32) -> Refusal
+        ensures { result ≡ refused_at reason node }
+    {
+        Refusal {
+            reason,
+            place: Some(node),
+        }
+    }
+
+    /// The number by which the place is known outside: the node's, or `NO_PLACE`.
+    pub fn place_number(self) -> u32
+        ensures { result ≡ place_number self.place }
+    {
+        self.place.unwrap_or(NO_PLACE)
     }
 }
 
@@ -176,7 +164,7 @@ impl fmt::Display for Answer {
 impl fmt::Display for Refusal {
     fn fmt<W: fmt::Write>(&self, f: &mut fmt::Formatter<W>) -> fmt::Result {
         let reason = self.reason.number();
-        let place = self.place;
+        let place = self.place_number();
         write!(f, "refused {reason} {place}")
     }
 }

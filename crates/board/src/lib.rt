@@ -3,10 +3,16 @@
 // The trait says by ghost members what a board means; code above it is proved once, for every board.
 #![tactic(auto)]
 
-ghost use Rattle.std.specs.Prelude.{◌≡◌, ℕ, ◌≤◌, List, [], ◌∷◌, length, take, drop, ℤ, if◌then◌else◌};
+ghost use Rattle.std.specs.Prelude.{◌≡◌, ℕ, ◌≤◌, List, [], ◌∷◌, length, take, drop, is_ok, ℤ, if◌then◌else◌};
 ghost use Rattle.std.specs.Borrow.{GName};
 ghost use Rattle.std.specs.List.{slice_get};
 ghost use Rattle.board.specs.Meaning.{Means, has_room, printed, tabled};
+
+use stack::Stack;
+
+/// Why a reading is refused: there are as many as the page has room for.
+#[derive(Clone, Copy, PartialEq, Eq, Debug)]
+pub struct PageFull;
 
 /// Inputs by number, and a page of readings.
 pub trait Board {
@@ -29,75 +35,80 @@ pub trait Board {
         ensures { result ≡ slice_get (means self.now).inputs n };
 
     /// Adds a reading; refused, changing nothing, exactly when the page is full.
-    fn print(&mut self, v: i32) -> bool
-        ensures taken { result ≡ has_room (means self.old) }
-        ensures after { means self.new ≡ (if result then printed v (means self.old) else means self.old) }
+    fn print(&mut self, v: i32) -> Result<(), PageFull>
+        ensures taken { is_ok result ≡ has_room (means self.old) }
+        ensures after { means self.new ≡ (if is_ok result then printed v (means self.old) else means self.old) }
         ensures lent { lent self.new ≡ lent self.old }
         ensures beside { (k : ℕ) → length (means self.new).readings ≤ k → beside self.new k ≡ beside self.old k };
 }
 
-/// The board over two tables: the words of one are its inputs, the other is its page.
+/// The board over two tables: the words of one are its inputs, the other is its page, and holds the readings so far.
 #[derive(Drop)]
 pub struct TableBoard<'a, 'b> {
     inputs: &'a [i32],
-    page: &'b mut [i32],
-    used: usize,
+    page: Stack<'b, i32>,
 }
 
 impl<'a, 'b> TableBoard<'a, 'b> {
     /// The board over two tables, without readings.
     pub fn over(inputs: &'a [i32], page: &'b mut [i32]) -> TableBoard<'a, 'b>
         ensures inputs { result.inputs.now ≡ inputs.now }
-        ensures page { result.page.now ≡ page.old }
-        ensures used { result.used ≡ 0 }
-        ensures lent { result.page.ghost_name ≡ page.entry.ghost_name }
+        ensures page { result.page.slots.now ≡ page.old }
+        ensures used { result.page.used ≡ 0 }
+        ensures lent { result.page.slots.ghost_name ≡ page.entry.ghost_name }
     {
         TableBoard {
             inputs,
-            page,
-            used: 0,
+            page: Stack::over(page),
         }
     }
 
     /// The readings so far, in their order.
     pub fn readings(&self) -> &[i32]
-        ensures { result.now ≡ take self.now.used self.now.page.now }
+        ensures { result.now ≡ take self.now.page.used self.now.page.slots.now }
     {
-        let page = &*self.page;
-        if self.used < page.len() {
-            &page[0..self.used]
-        } else {
-            page
-        }
+        let page = &*self.page.slots;
+        page.get(..self.page.used).unwrap_or(page)
     }
 }
 
 impl Board for TableBoard<'_, '_> {
-    ghost means = { λ b. tabled b.inputs.now b.page.now b.used };
+    ghost means = { λ b. tabled b.inputs.now b.page.slots.now b.page.used };
 
-    ghost lent = { λ b. b.page.ghost_name ∷ [] };
+    ghost lent = { λ b. b.page.slots.ghost_name ∷ [] };
 
-    ghost beside = { λ b k. drop k b.page.now };
+    ghost beside = { λ b k. drop k b.page.slots.now };
 
     fn count(&self) -> usize {
         self.inputs.len()
     }
 
     fn input(&self, n: usize) -> Option<i32> {
-        if n < self.inputs.len() {
-            Some(self.inputs[n])
-        } else {
-            None
-        }
+        self.inputs.get(n).copied()
     }
 
-    fn print(&mut self, v: i32) -> bool {
-        if self.used < self.page.len() {
-            self.page[self.used] = v;
-            self.used += 1;
-            true
-        } else {
-            false
-        }
+    fn print(&mut self, v: i32) -> Result<(), PageFull> {
+        self.page.push(v).map_err(|_| PageFull)
+    }
+}
+
+/// A lent board is a board.
+impl<B: Board> Board for &mut B {
+    ghost means = { λ b. B.Board.means b.now };
+
+    ghost lent = { λ b. b.ghost_name ∷ B.Board.lent b.now };
+
+    ghost beside = { λ b. B.Board.beside b.now };
+
+    fn count(&self) -> usize {
+        (**self).count()
+    }
+
+    fn input(&self, n: usize) -> Option<i32> {
+        (**self).input(n)
+    }
+
+    fn print(&mut self, v: i32) -> Result<(), PageFull> {
+        (**self).print(v)
     }
 }

@@ -24,11 +24,7 @@ module _ (P : ℕ → Type 0) where
   Bears (Code.call k f m) = P m
   Bears (Code.tcall k n f m) = P m
   Bears (Code.ret n m) = P m
-  Bears Code.ldargs = Unit {0}
-  Bears Code.stop = Unit {0}
-  Bears Code.label = Unit {0}
-  Bears (Code.loop_at w) = Unit {0}
-  Bears (Code.entry f) = Unit {0}
+  Bears _ = Unit {0}
 
   abbrev pub Marked : Code → Type 0
   Marked [] = Unit {0}
@@ -50,11 +46,7 @@ module _ (P : ℕ → Type 0) (none : P no_place) where
   item_mark (Code.call k f m) h = h
   item_mark (Code.tcall k n f m) h = h
   item_mark (Code.ret n m) h = h
-  item_mark Code.ldargs h = none
-  item_mark Code.stop h = none
-  item_mark Code.label h = none
-  item_mark (Code.loop_at w) h = none
-  item_mark (Code.entry f) h = none
+  item_mark _ h = none
 
   copies : (n m : ℕ) → P m → AllByRecursion P (replicate n m)
   copies zero m h = tt

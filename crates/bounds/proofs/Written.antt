@@ -12,20 +12,10 @@ module _ (P : ℕ → Type 0) where
   pub marked_dead : (C : Code) → Marked P C → Marked P (dead C)
   unfolding dead
   marked_dead [] h = tt
-  marked_dead (Code.csti v m ∷ C) h = marked_dead C h.1
-  marked_dead (Code.plain p m ∷ C) h = marked_dead C h.1
-  marked_dead (Code.pop m ∷ C) h = marked_dead C h.1
-  marked_dead (Code.goto t m ∷ C) h = marked_dead C h.1
-  marked_dead (Code.ifzero t m ∷ C) h = marked_dead C h.1
-  marked_dead (Code.ifnzro t m ∷ C) h = marked_dead C h.1
-  marked_dead (Code.call k f m ∷ C) h = marked_dead C h.1
-  marked_dead (Code.tcall k n f m ∷ C) h = marked_dead C h.1
-  marked_dead (Code.ret n m ∷ C) h = marked_dead C h.1
-  marked_dead (Code.ldargs ∷ C) h = marked_dead C h.1
-  marked_dead (Code.stop ∷ C) h = marked_dead C h.1
   marked_dead (Code.label ∷ C) h = h
   marked_dead (Code.loop_at w ∷ C) h = h
   marked_dead (Code.entry f ∷ C) h = h
+  marked_dead (_ ∷ C) h = marked_dead C h.1
 
   marked-if : (b : Bool) (A B : Code) → Marked P A → Marked P B → Marked P (cond b A B)
   marked-if true A B f g = f
@@ -39,16 +29,9 @@ module _ (P : ℕ → Type 0) where
 
   pub marked_not : (n : ℕ) {C : Code} (v : View C) → P n → Marked P C → Marked P (not_before n v)
   unfolding not_before
-  marked_not n (Code.v_add m C) p h = (p, h)
-  marked_not n (Code.v_sub m C) p h = (p, h)
-  marked_not n (Code.v_mul m C) p h = (p, h)
-  marked_not n (Code.v_div m C) p h = (p, h)
-  marked_not n (Code.v_eq m v) p h = (p, h)
-  marked_not n (Code.v_not m v) p h = (p, h)
-  marked_not n (Code.v_pop m C) p h = (p, h)
   marked_not n (Code.v_ifzero t m C) p h = h
   marked_not n (Code.v_ifnzro t m C) p h = h
-  marked_not n (Code.v_rest C) p h = (p, h)
+  marked_not n _ p h = (p, h)
 
   pub marked_cst : (i : ℤ) (n : ℕ) {C : Code} (v : View C) → P n → Marked P C → Marked P (cst_before i n v)
   unfolding cst_before
@@ -97,42 +80,22 @@ module _ (P : ℕ → Type 0) where
 
   pub marked_and : (n : ℕ) {C : Code} (v : View C) → P n → Marked P C → MarkedWay (and_before n v)
   unfolding and_before
-  marked_and n (Code.v_add m C) p h = marked_short (pos 0) n _ p h
-  marked_and n (Code.v_sub m C) p h = marked_short (pos 0) n _ p h
-  marked_and n (Code.v_mul m C) p h = marked_short (pos 0) n _ p h
-  marked_and n (Code.v_div m C) p h = marked_short (pos 0) n _ p h
-  marked_and n (Code.v_eq m v) p h = marked_short (pos 0) n _ p h
-  marked_and n (Code.v_not m v) p h = marked_short (pos 0) n _ p h
-  marked_and n (Code.v_pop m C) p h = marked_short (pos 0) n _ p h
   marked_and n (Code.v_ifzero t m C) p h = (h.0, h)
   marked_and n (Code.v_ifnzro t m C) p h = ((p, aims_target (front C) h.1), (h.0, marked_labelled (front C) h.1))
-  marked_and n (Code.v_rest C) p h = marked_short (pos 0) n C p h
+  marked_and n _ p h = marked_short (pos 0) n _ p h
 
   pub marked_or : (n : ℕ) {C : Code} (v : View C) → P n → Marked P C → MarkedWay (or_before n v)
   unfolding or_before
-  marked_or n (Code.v_add m C) p h = marked_short (pos 1) n _ p h
-  marked_or n (Code.v_sub m C) p h = marked_short (pos 1) n _ p h
-  marked_or n (Code.v_mul m C) p h = marked_short (pos 1) n _ p h
-  marked_or n (Code.v_div m C) p h = marked_short (pos 1) n _ p h
-  marked_or n (Code.v_eq m v) p h = marked_short (pos 1) n _ p h
-  marked_or n (Code.v_not m v) p h = marked_short (pos 1) n _ p h
-  marked_or n (Code.v_pop m C) p h = marked_short (pos 1) n _ p h
   marked_or n (Code.v_ifzero t m C) p h = ((p, aims_target (front C) h.1), (h.0, marked_labelled (front C) h.1))
   marked_or n (Code.v_ifnzro t m C) p h = (h.0, h)
-  marked_or n (Code.v_rest C) p h = marked_short (pos 1) n C p h
+  marked_or n _ p h = marked_short (pos 1) n _ p h
 
   pub marked_operator : (o : Operator) (n : ℕ) (C : Code) → P n → Marked P C → Marked P (operator_code o n C)
-  marked_operator Words.add n C p h = (p, h)
-  marked_operator Words.sub n C p h = (p, h)
-  marked_operator Words.mul n C p h = (p, h)
-  marked_operator Words.div n C p h = (p, h)
-  marked_operator Words.rem n C p h = (p, h)
-  marked_operator Words.eq n C p h = (p, h)
   marked_operator Words.ne n C p h = (p, marked_not n (view C) p h)
-  marked_operator Words.lt n C p h = (p, h)
   marked_operator Words.ge n C p h = (p, marked_not n (view C) p h)
   marked_operator Words.gt n C p h = (p, (p, h))
   marked_operator Words.le n C p h = (p, (p, marked_not n (view C) p h))
+  marked_operator _ n C p h = (p, h)
 
   pub marked_element : (n len w : ℕ) (C : Code) → P n → Marked P C → Marked P (element_code n len w C)
   marked_element n len w C p h =

@@ -4,8 +4,7 @@
 ghost use Rattle.std.specs.Prelude.{◌≡◌, [], map, min, length};
 ghost use Rattle.agreement.specs.Agreement.{stack_words};
 ghost use Rattle.history.specs.Calls.{pass as pass_call, plain_pass, packet_pass};
-ghost use Rattle.history.specs.History.{State};
-ghost use Rattle.station.specs.Held.{Agrees, Does};
+ghost use Rattle.station.specs.Held.{Follows};
 ghost use Rattle.station.specs.Passed.{said_of};
 ghost use Rattle.station.specs.Packets.{said_packet, length_of, readings_in};
 ghost use Rattle.calls.specs.Stacks.{Beyond};
@@ -32,7 +31,8 @@ pub enum Call<B: Board> {
         words: usize,
         board: B,
     },
-    /// Runs the loaded script on an input packet, likewise, and completes an output packet of `length` bytes, 0 where there is none.
+    /// Runs the loaded script on an input packet, likewise, and completes an output packet of `length` bytes, 0 where there is none,
+    /// as a packet pass answers it.
     Packet {
         allowed: Allowance,
         words: usize,
@@ -64,11 +64,10 @@ fn hand_pass<B: Board>(
     stack: &mut [i32],
     board: &mut B,
 ) -> Result<Answer, Refusal>
-    ensures does { (σ : State) → Agrees σ station.old →
-        Does σ (pass_call (plain_pass allowed (min words (length stack.old)) (B.means board.old))) (said_of result) (B.means board.new).readings station.new }
+    ensures does { Follows station.old (pass_call (plain_pass allowed (min words (length stack.old)) (B.means board.old))) (said_of result) (B.means board.new).readings station.new }
     ensures beyond { Beyond (stack_words allowed.depth) stack.old stack.new }
     ensures lent { B.lent board.new ≡ B.lent board.old }
 {
     let long = words.min(stack.len());
-    station.pass(allowed, &mut stack[0..long], board)
+    station.pass(allowed, &mut stack[..long], board)
 }

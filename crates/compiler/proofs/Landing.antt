@@ -1,28 +1,20 @@
--- From the check's acceptance and the writer's answer to what was compiled.
-use Rattle.std.proofs.Common.{◌≡◌, ℕ, zero, suc, ◌+◌, ◌-◌, ◌<◌, Bool, false, cond, List, [], ◌∷◌, map, length, get_or, Some, None, Ok, Err, Option, Result, sym, refl, ap, ◌∙◌, arith, ltb-false}
+-- From what was written of an accepted script to what the tables then hold.
+use Rattle.std.proofs.Common.{◌≡◌, ℕ, zero, suc, ◌+◌, ◌-◌, ◌<◌, ◌≤◌, Bool, false, cond, List, [], ◌∷◌, map, length, get_or, ℤ, Ok, Err, sym, refl, ap, ◌∙◌, arith, ltb-false}
 use Rattle.std.proofs.lemmas.List.{length-map}
 use Rattle.answer.specs.Numbers.{refused}
 use Rattle.answer.specs.declared.Reason.TheVariants.{CodeLength}
-use Rattle.answer.specs.declared.Refusal.{Refusal}
 use Rattle.rules.specs.Limits.{code_limit}
 use Rattle.script.specs.declared.Function.{Function}
 use Rattle.script.specs.declared.Node.{Node}
-use Rattle.script.specs.Fault.{fault, answer_of}
+use Rattle.script.specs.declared.Script.{Script as Accepted}
 use Rattle.meaning.specs.Tree.{Script}
 use Rattle.meaning.specs.Tables.{script_of}
 use Rattle.scheme.specs.Code.{Code, size}
 use Rattle.scheme.specs.Scheme.{script_code}
 use Rattle.scheme.specs.Written.{written, too_long, entries_from, entry_end}
 use Rattle.statements.specs.Learns.{KnowsEntries}
-use Rattle.writer.specs.Program.{answered}
-use Rattle.compiler.specs.Compiled.{compiled, unless, position_of}
-
-pub no_fault : (o : Option Refusal) → Ok tt ≡ answer_of o → o ≡ None
-no_fault None e = refl
-no_fault (Some why) e = let z : ◌≡◌ {A = ℕ} 0 1 = cc in absurd (omega arith)
-
-pub started : (fs : List Function) (gs : List ℕ) (xs : List Node) (r : Result ℕ Refusal) → fault fs gs xs ≡ None → r ≡ answered (script_of fs gs xs) → r ≡ compiled fs gs xs
-started fs gs xs r f a = a ∙ ap (λ (o : Option Refusal). unless o (answered (script_of fs gs xs))) (sym f)
+use Rattle.writer.specs.Program.{tree_of, answered, WordsIn, MarksIn}
+use Rattle.compiler.specs.Compiled.{position_of, Holds}
 
 -- the n-th of the entries
 entries_at : (P : Code) (g n f : ℕ) → f < n → get_or (entries_from P g n) f 0 ≡ size P - entry_end P (g + f)
@@ -41,7 +33,7 @@ start_is s start l a =
     let b : Ok start ≡ Ok (code_limit - size (script_code s)) = a ∙ ap (λ (c : Bool). cond c (Err (refused CodeLength)) (Ok (code_limit - size (script_code s)))) l in
     cc
 
-pub entries_are : (fs : List Function) (gs : List ℕ) (xs : List Node) (start : ℕ) (lefts entries : List ℕ) (f : ℕ) → too_long (script_of fs gs xs) ≡ false
+entries_are : (fs : List Function) (gs : List ℕ) (xs : List Node) (start : ℕ) (lefts entries : List ℕ) (f : ℕ) → too_long (script_of fs gs xs) ≡ false
     → Ok start ≡ answered (script_of fs gs xs) → KnowsEntries lefts (script_code (script_of fs gs xs)) → entries ≡ map (position_of (code_limit - start)) lefts
     → f < length fs → f < length lefts → get_or entries f 0 ≡ get_or (written (script_of fs gs xs)).entries f 0
 unfolding position_of
@@ -57,3 +49,12 @@ entries_are fs gs xs start lefts entries f l a knows e h k =
     ∙ ap (λ (n : ℕ). n - get_or lefts f 0) whole
     ∙ ap (λ (n : ℕ). size P - n) (knows f)
     ∙ sym (entries_at P 0 (length s.functions) f (omega arith) ∙ ap (λ (n : ℕ). size P - entry_end P n) (let z : 0 + f ≡ f = omega arith in z))
+
+-- what was written of an accepted script is held
+pub held : (s : Accepted) (start : ℕ) (lefts entries marks : List ℕ) (words : List ℤ) → Ok start ≡ answered (tree_of s) → WordsIn words (tree_of s) → MarksIn marks (tree_of s) → KnowsEntries lefts (script_code (tree_of s)) → entries ≡ map (position_of (code_limit - start)) lefts
+    → length s.functions.now ≤ length lefts → Holds s.functions.now s.globals.now s.nodes.now words marks entries
+held s start lefts entries marks words a w m knows e room q short = record {
+  words_are = w short;
+  marks_are = m short;
+  entries_are = λ f h. (let k : f < length lefts = omega arith in entries_are _ _ _ start lefts entries f short a knows e h k);
+}

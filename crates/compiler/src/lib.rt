@@ -8,38 +8,29 @@ use answer::Refusal;
 use draft::cells::{Cell, Place, Word};
 use room::DRAFT_ROOM;
 use rules::CODE_LIMIT;
-use script::{Function, Node, check};
+use script::limits::{MAX_FUNCTIONS, MAX_NODES};
+use script::{Function, Node, Script};
 use statements::LoopLabel;
 use writer::write_script;
 
-/// The most nodes of a script.
-const NODES: usize = 512;
-/// The most functions of a script.
-const FUNCTIONS: usize = 16;
-
-/// Working memory for the longest draft that there can be, and the code that was written last, at the far end of its tables.
+/// Working memory for the longest draft that there can be, and the code that was written last, at the far end of its tables. Nothing is on a
+/// heap, and the words are a table of their own, since the machine takes them alone.
 #[derive(Drop)]
 pub struct Compiler {
     cells: [Cell; DRAFT_ROOM],
-    loops: [LoopLabel; NODES],
-    starts: [usize; NODES],
-    pub entries: [usize; FUNCTIONS],
+    loops: [LoopLabel; MAX_NODES],
+    starts: [usize; MAX_NODES],
+    pub entries: [usize; MAX_FUNCTIONS],
     pub words: [i32; CODE_LIMIT],
     pub marks: [usize; CODE_LIMIT],
 }
 
-fn position(whole: usize, left: usize) -> usize
-    ensures { result ≡ position_of whole left }
-{
-    whole.saturating_sub(left)
-}
-
-// lengths up to the end become positions
+// Lengths up to the end become positions.
 fn turn_round(entries: &mut [usize], whole: usize)
     ensures { entries.new ≡ map (position_of whole) entries.old }
 {
-    for e in entries.iter_mut() {
-        *e = position(whole, *e);
+    for entry in entries.iter_mut() {
+        *entry = whole.saturating_sub(*entry);
     }
 }
 
@@ -57,9 +48,9 @@ impl Compiler {
         };
         Compiler {
             cells: [cell; DRAFT_ROOM],
-            loops: [label; NODES],
-            starts: [0; NODES],
-            entries: [0; FUNCTIONS],
+            loops: [label; MAX_NODES],
+            starts: [0; MAX_NODES],
+            entries: [0; MAX_FUNCTIONS],
             words: [0; CODE_LIMIT],
             marks: [0; CODE_LIMIT],
         }
@@ -75,11 +66,9 @@ impl Compiler {
         ensures answer { result ≡ compiled functions.now globals.now nodes.now }
         ensures code { Holds functions.now globals.now nodes.now self.new.words self.new.marks self.new.entries }
     {
-        check(functions, globals, nodes)?;
+        let script = Script::of(functions, globals, nodes)?;
         let start = write_script(
-            functions,
-            globals,
-            nodes,
+            script,
             &mut self.cells,
             &mut self.loops,
             &mut self.starts,

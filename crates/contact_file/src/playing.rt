@@ -1,13 +1,13 @@
 // Plays a contact file: makes each call that a line names, and prints what came of it.
-use crate::lines::{Execution, Fault, Line, read_line};
 use anyhow::anyhow;
 use board::TableBoard;
 use compiler::Compiler;
+use contact_lines::{Execution, Fault, Line, read_line_without_station};
 use machine::execute;
 use rules::CODE_LIMIT;
 use script::{Function, Node};
 use std::alloc::{AllocError, Global};
-use std::fmt::Display;
+use std::fmt::{self, Display};
 use std::io::{BufRead, BufReader};
 
 // what was collected for the next execute
@@ -15,6 +15,15 @@ use std::io::{BufRead, BufReader};
 struct Loose {
     code: Vec<i32>,
     words: Vec<i32>,
+}
+
+impl Loose {
+    fn new(heap: Global) -> Loose {
+        Loose {
+            code: Vec::new(heap),
+            words: Vec::new(heap),
+        }
+    }
 }
 
 // the tables that were collected for the next load
@@ -25,41 +34,39 @@ struct Tables {
     nodes: Vec<Node>,
 }
 
-fn no_code(heap: Global) -> Loose {
-    Loose {
-        code: Vec::new(heap),
-        words: Vec::new(heap),
+impl Tables {
+    fn new(heap: Global) -> Tables {
+        Tables {
+            functions: Vec::new(heap),
+            globals: Vec::new(heap),
+            nodes: Vec::new(heap),
+        }
     }
-}
-
-fn no_tables(heap: Global) -> Tables {
-    Tables {
-        functions: Vec::new(heap),
-        globals: Vec::new(heap),
-        nodes: Vec::new(heap),
-    }
-}
-
-fn add(list: &mut Vec<i32>, more: Vec<i32>) -> Result<(), AllocError> {
-    list.extend_from_slice(more.as_slice())
 }
 
 // a stack of so many words, zeros but for the starting words at its front
 fn stack_of(heap: Global, size: usize, words: &[i32]) -> Result<Vec<i32>, AllocError> {
-    let mut stack = Vec::with_capacity(heap, size)?;
-    for i in 0..size {
-        stack.push(if i < words.len() { words[i] } else { 0 })?;
-    }
+    let mut stack = Vec::from_slice(heap, words)?;
+    stack.resize(size, 0)?;
     Ok(stack)
 }
 
-fn print_execution(rt: &HostRuntime, said: &impl Display, readings: &[i32]) -> anyhow::Result<()> {
-    let count = readings.len();
-    print!(rt; "execute {said} readings {count}")?;
-    for reading in readings {
-        print!(rt; " {reading}")?;
+// numbers, shown behind their count
+#[derive(Drop)]
+struct Counted<'a, T>(&'a [T]);
+
+impl<T: Display> Display for Counted<'_, T> {
+    fn fmt<W: fmt::Write>(&self, f: &mut fmt::Formatter<W>) -> fmt::Result {
+        write!(f, "{}", self.0.len())?;
+        for number in self.0 {
+            write!(f, " {number}")?;
+        }
+        Ok(())
     }
-    println!(rt; "")?;
+}
+
+fn print_execution(rt: &HostRuntime, said: &impl Display, readings: &[i32]) -> anyhow::Result<()> {
+    println!(rt; "execute {said} readings {}", Counted(readings))?;
     Ok(())
 }
 
@@ -89,13 +96,13 @@ fn load_tables(rt: &HostRuntime, compiler: &mut Compiler, tables: &Tables) -> an
         tables.nodes.as_slice(),
     ) {
         Ok(start) => {
+            // The start is within the table and the functions are as many as entries at most; what is printed rests on neither.
             let words = CODE_LIMIT.saturating_sub(start);
-            let count = functions.len();
-            print!(rt; "load ok words {words} entries {count}")?;
-            for entry in compiler.entries.iter().take(count) {
-                print!(rt; " {entry}")?;
-            }
-            println!(rt; "")?;
+            let entries = compiler
+                .entries
+                .get(..functions.len())
+                .unwrap_or(&compiler.entries);
+            println!(rt; "load ok words {words} entries {}", Counted(entries))?;
         }
         Err(refusal) => println!(rt; "load {refusal}")?,
     }
@@ -103,37 +110,37 @@ fn load_tables(rt: &HostRuntime, compiler: &mut Compiler, tables: &Tables) -> an
 }
 
 // what is wrong, with the number of the line
-fn at_line<'a>(heap: Global, number: u64, fault: Fault<'a>) -> anyhow::Result<()> {
+fn at_line<'a>(heap: Global, number: usize, fault: Fault<'a>) -> anyhow::Result<()> {
     Err(anyhow!(format!(in heap; "line {number}: {fault}")?))
 }
 
 /// Plays the contact file on standard input. A line that cannot be read ends it.
 pub fn play(rt: &HostRuntime) -> anyhow::Result<()> {
     let heap = rt.alloc();
-    let mut loose = no_code(heap);
-    let mut tables = no_tables(heap);
+    let mut loose = Loose::new(heap);
+    let mut tables = Tables::new(heap);
     let mut compiler = Compiler::new();
-    let mut number: u64 = 0;
-    for line in BufReader::new(heap, rt.stdin())?.lines(heap) {
+    for (i, line) in BufReader::new(heap, rt.stdin())?.lines(heap).enumerate() {
         let text = line?;
-        number = number.saturating_add(1);
-        match read_line(heap, text.as_str()) {
+        match read_line_without_station(heap, text.as_str()) {
             Ok(Line::Comment) => rt.println(text.as_str())?,
             Ok(Line::Blank) => {}
-            Ok(Line::Code(more)) => add(&mut loose.code, more)?,
-            Ok(Line::Words(more)) => add(&mut loose.words, more)?,
+            Ok(Line::Code(more)) => loose.code.extend_from_slice(more.as_slice())?,
+            Ok(Line::Words(more)) => loose.words.extend_from_slice(more.as_slice())?,
             Ok(Line::Execute(asked)) => {
                 run_code(rt, &loose, &asked)?;
-                loose = no_code(heap);
+                loose = Loose::new(heap);
             }
             Ok(Line::Function(function)) => tables.functions.push(function)?,
             Ok(Line::Global(length)) => tables.globals.push(length)?,
             Ok(Line::Node(node)) => tables.nodes.push(node)?,
             Ok(Line::Load) => {
                 load_tables(rt, &mut compiler, &tables)?;
-                tables = no_tables(heap);
+                tables = Tables::new(heap);
             }
-            Err(fault) => at_line(heap, number, fault)?,
+            // the reader refuses a station's calls
+            Ok(Line::Pass(_) | Line::Packet(_) | Line::Clear) => unreachable!(),
+            Err(fault) => return at_line(heap, i + 1, fault),
         }
     }
     Ok(())

@@ -1,14 +1,9 @@
--- What is known of a line that was read: its sizes are within the limit.
-use Rattle.std.specs.Prelude.{ℕ, ◌<◌, ◌≤◌, Some, None, Option}
+-- What is known of a line that was read: its sizes are within the limit, and whether it needs a station.
+use Rattle.std.specs.Prelude.{ℕ, ◌≤◌}
 use Rattle.contact_lines.specs.declared.lines.Execution.{Execution}
 use Rattle.contact_lines.specs.declared.lines.PacketPass.{PacketPass}
 use Rattle.contact_lines.specs.declared.lines.Line.{Line}
 use Rattle.contact_lines.specs.declared.lines.Line.TheVariants.{Comment, Blank, Code, Words, Execute, Function, Global, Node, Load, Pass, Packet, Clear}
-
--- a hexadecimal digit's value, where there is one
-abbrev pub Digit : Option ℕ → Type 0
-Digit (Some n) = n < 16
-Digit None = Unit {0}
 
 -- the most that a STACK, a PAGE or an OUTPUT may be
 abbrev pub size_limit : ℕ
@@ -33,3 +28,18 @@ Limited (Global n) = Unit {0}
 Limited (Node n) = Unit {0}
 Limited Load = Unit {0}
 Limited Clear = Unit {0}
+
+-- it asks for no call of a station
+abbrev pub IsStationless : Line → Type 0
+IsStationless (Pass e) = ⊥
+IsStationless (Packet p) = ⊥
+IsStationless Clear = ⊥
+IsStationless Comment = Unit {0}
+IsStationless Blank = Unit {0}
+IsStationless (Code words) = Unit {0}
+IsStationless (Words words) = Unit {0}
+IsStationless (Execute e) = Unit {0}
+IsStationless (Function f) = Unit {0}
+IsStationless (Global n) = Unit {0}
+IsStationless (Node n) = Unit {0}
+IsStationless Load = Unit {0}

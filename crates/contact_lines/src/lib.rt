@@ -3,4 +3,6 @@
 
 mod lines;
 
-pub use lines::{Execution, Fault, Line, PacketPass, SIZE_LIMIT, Trouble, read_line};
+pub use lines::{
+    Execution, Fault, Line, PacketPass, SIZE_LIMIT, Trouble, read_line, read_line_without_station,
+};

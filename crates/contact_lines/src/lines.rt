@@ -1,11 +1,12 @@
 // One line of a contact file, read.
 ghost use Rattle.std.specs.Prelude.{◌≤◌, IfOk};
-ghost use Rattle.contact_lines.specs.Limited.{size_limit, Runnable, Packable, Limited, Digit};
+ghost use Rattle.contact_lines.specs.Limited.{size_limit, Runnable, Packable, Limited, IsStationless};
 
 use machine::Allowance;
 use script::{Function, Node};
 use std::alloc::{AllocError, AllocFailed, Global};
 use std::fmt;
+use std::str::{FromStr, SplitWhitespace};
 
 /// The most words of a stack, words of a page and bytes of an output that a line may ask for.
 pub const SIZE_LIMIT: u32 = 1_000_000;
@@ -38,7 +39,7 @@ pub enum Line {
 #[derive(Drop)]
 pub struct Execution {
     pub allowed: Allowance,
-    /// How many words the stack has.
+    /// How many words the stack has. Those above the starting words, if there are any, begin as zeros.
     pub stack: usize,
     /// How many readings the board has room for.
     pub page: usize,
@@ -61,23 +62,28 @@ pub struct PacketPass {
     pub input: Vec<u8>,
 }
 
-/// Why a line cannot be read, and the word of it that is at fault; none where one is missing.
+/// Why a line cannot be read, and the word of it that is at fault, if one is. The word is no part of the trouble: those
+/// who tell troubles apart compare them without it.
 #[derive(Clone, Copy, Drop)]
 pub struct Fault<'a> {
     pub trouble: Trouble,
-    pub word: &'a str,
+    pub word: Option<&'a str>,
 }
 
 #[derive(Clone, Copy, PartialEq, Eq, Debug)]
 pub enum Trouble {
     /// The line begins with no known word.
     UnknownWord,
+    /// The line begins with the word of a station's call, for a program that has no station.
+    NotServed,
     /// A number that the line should have is not there, or a packet's bytes.
     Missing,
     /// What should be a number is none, or does not fit where it stands.
     Number,
-    /// A size over the limit.
+    /// A stack or a page over the limit.
     Size,
+    /// An output over the limit.
+    OutputSize,
     /// What should be bytes is not two hexadecimal digits for each.
     Bytes,
     /// A word behind the last that the line can have.
@@ -89,7 +95,17 @@ pub enum Trouble {
 impl<'a> Fault<'a> {
     // a fault that no word of the line is to blame for
     fn of(trouble: Trouble) -> Fault<'a> {
-        Fault { trouble, word: "" }
+        Fault {
+            trouble,
+            word: None,
+        }
+    }
+
+    fn at(trouble: Trouble, word: &'a str) -> Fault<'a> {
+        Fault {
+            trouble,
+            word: Some(word),
+        }
     }
 }
 
@@ -107,12 +123,18 @@ impl<'a, T: Drop> From<AllocFailed<T>> for Fault<'a> {
 
 impl fmt::Display for Fault<'_> {
     fn fmt<W: fmt::Write>(&self, f: &mut fmt::Formatter<W>) -> fmt::Result {
-        let word = self.word;
+        // a missing number and missing memory show no word
+        let word = self.word.unwrap_or("");
         match self.trouble {
             Trouble::UnknownWord => write!(f, "no line begins with '{word}'"),
+            Trouble::NotServed => write!(
+                f,
+                "'{word}' is for a station, which this program does not have yet"
+            ),
             Trouble::Missing => write!(f, "a number is missing"),
             Trouble::Number => write!(f, "'{word}' is no number that fits here"),
-            Trouble::Size => write!(f, "'{word}' is more than {SIZE_LIMIT}"),
+            Trouble::Size => write!(f, "'{word}' is more than {SIZE_LIMIT} words"),
+            Trouble::OutputSize => write!(f, "'{word}' is more than {SIZE_LIMIT}"),
             Trouble::Bytes => write!(f, "'{word}' is no bytes in hexadecimal"),
             Trouble::TooMany => write!(f, "'{word}' is one word too many"),
             Trouble::Memory => write!(f, "no memory is left"),
@@ -120,116 +142,12 @@ impl fmt::Display for Fault<'_> {
     }
 }
 
-fn next<'a>(words: &mut std::str::SplitWhitespace<'a>) -> Result<&'a str, Fault<'a>> {
-    match words.next() {
-        Some(word) => Ok(word),
-        None => Err(Fault::of(Trouble::Missing)),
-    }
-}
-
-fn count<'a>(word: &'a str) -> Result<u32, Fault<'a>> {
-    match word.parse::<u32>() {
-        Ok(n) => Ok(n),
-        Err(_) => Err(Fault {
-            trouble: Trouble::Number,
-            word,
-        }),
-    }
-}
-
-fn size<'a>(word: &'a str) -> Result<usize, Fault<'a>>
-    ensures { IfOk result (λ n. n ≤ size_limit) }
+// the number that a word writes, in the range of its type
+fn number<'a, T: FromStr>(word: &'a str) -> Result<T, Fault<'a>>
+where
+    T::Err: Drop,
 {
-    let n = count(word)?;
-    if n > SIZE_LIMIT {
-        return Err(Fault {
-            trouble: Trouble::Size,
-            word,
-        });
-    }
-    Ok(n as usize)
-}
-
-fn short<'a>(word: &'a str) -> Result<u16, Fault<'a>> {
-    match word.parse::<u16>() {
-        Ok(n) => Ok(n),
-        Err(_) => Err(Fault {
-            trouble: Trouble::Number,
-            word,
-        }),
-    }
-}
-
-fn byte<'a>(word: &'a str) -> Result<u8, Fault<'a>> {
-    match word.parse::<u8>() {
-        Ok(n) => Ok(n),
-        Err(_) => Err(Fault {
-            trouble: Trouble::Number,
-            word,
-        }),
-    }
-}
-
-fn signed<'a>(word: &'a str) -> Result<i32, Fault<'a>> {
-    match word.parse::<i32>() {
-        Ok(n) => Ok(n),
-        Err(_) => Err(Fault {
-            trouble: Trouble::Number,
-            word,
-        }),
-    }
-}
-
-// all the numbers that are left
-fn numbers<'a>(heap: Global, words: std::str::SplitWhitespace<'a>) -> Result<Vec<i32>, Fault<'a>> {
-    let mut list = Vec::new(heap);
-    for word in words {
-        list.push(signed(word)?)?;
-    }
-    Ok(list)
-}
-
-fn read_allowance<'a>(words: &mut std::str::SplitWhitespace<'a>) -> Result<Allowance, Fault<'a>> {
-    let turns = count(next(words)?)?;
-    let depth = count(next(words)?)?;
-    Ok(Allowance { turns, depth })
-}
-
-fn read_execution<'a>(
-    heap: Global,
-    mut words: std::str::SplitWhitespace<'a>,
-) -> Result<Execution, Fault<'a>>
-    ensures { IfOk result Runnable }
-{
-    let allowed = read_allowance(&mut words)?;
-    let stack = size(next(&mut words)?)?;
-    let page = size(next(&mut words)?)?;
-    let inputs = numbers(heap, words)?;
-    Ok(Execution {
-        allowed,
-        stack,
-        page,
-        inputs,
-    })
-}
-
-// the value of a hexadecimal digit
-fn digit(c: char) -> Option<u8>
-    ensures { Digit result }
-{
-    match c {
-        '0'..='9' => Some(c as u8 - b'0'),
-        'a'..='f' => Some(c as u8 - b'a' + 10),
-        'A'..='F' => Some(c as u8 - b'A' + 10),
-        _ => None,
-    }
-}
-
-// one byte: two digits, of which the second may be missing
-fn byte_of(high: char, low: Option<char>) -> Option<u8> {
-    let high = digit(high)?;
-    let low = digit(low?)?;
-    Some(high * 16 + low)
+    word.parse().map_err(|_| Fault::at(Trouble::Number, word))
 }
 
 // the bytes that a word writes in hexadecimal; `-` writes none
@@ -238,119 +156,187 @@ fn bytes<'a>(heap: Global, word: &'a str) -> Result<Vec<u8>, Fault<'a>> {
     if word == "-" {
         return Ok(list);
     }
-    let mut digits = word.chars();
-    while let Some(high) = digits.next() {
-        let Some(byte) = byte_of(high, digits.next()) else {
-            return Err(Fault {
-                trouble: Trouble::Bytes,
-                word,
-            });
-        };
+    for digits in word.as_bytes().chunks(2) {
+        let byte = byte_of(digits).ok_or(Fault::at(Trouble::Bytes, word))?;
         list.push(byte)?;
     }
     Ok(list)
 }
 
-fn read_packet<'a>(
-    heap: Global,
-    mut words: std::str::SplitWhitespace<'a>,
-) -> Result<PacketPass, Fault<'a>>
+// one byte, of two hexadecimal digits; the last of a word may lack its second
+fn byte_of(digits: &[u8]) -> Option<u8> {
+    let [high, low] = digits else {
+        return None;
+    };
+    let high = char::from(*high).to_digit(16)?;
+    let low = char::from(*low).to_digit(16)?;
+    Some((high * 16 + low) as u8)
+}
+
+// the words of a line that are still to be read
+#[derive(Drop)]
+struct Words<'a> {
+    left: SplitWhitespace<'a>,
+}
+
+impl<'a> Words<'a> {
+    fn of(text: &'a str) -> Words<'a> {
+        Words {
+            left: text.split_whitespace(),
+        }
+    }
+
+    fn word(&mut self) -> Result<&'a str, Fault<'a>> {
+        self.left.next().ok_or(Fault::of(Trouble::Missing))
+    }
+
+    fn number<T: FromStr>(&mut self) -> Result<T, Fault<'a>>
+    where
+        T::Err: Drop,
+    {
+        number(self.word()?)
+    }
+
+    // a number within the limit; `over` is what is wrong with a greater one
+    fn size(&mut self, over: Trouble) -> Result<usize, Fault<'a>>
+        ensures { IfOk result (λ n. n ≤ size_limit) }
+    {
+        let word = self.word()?;
+        let n: u32 = number(word)?;
+        if n > SIZE_LIMIT {
+            return Err(Fault::at(over, word));
+        }
+        Ok(n as usize)
+    }
+
+    fn allowance(&mut self) -> Result<Allowance, Fault<'a>> {
+        Ok(Allowance {
+            turns: self.number()?,
+            depth: self.number()?,
+        })
+    }
+
+    // a field of a node, which may be left out
+    fn field(&mut self) -> Result<i32, Fault<'a>> {
+        match self.left.next() {
+            Some(word) => number(word),
+            None => Ok(0),
+        }
+    }
+
+    // all the numbers that are left
+    fn numbers(self, heap: Global) -> Result<Vec<i32>, Fault<'a>> {
+        let mut list = Vec::new(heap);
+        for word in self.left {
+            list.push(number(word)?)?;
+        }
+        Ok(list)
+    }
+
+    // no word is left
+    fn end(mut self) -> Result<(), Fault<'a>> {
+        match self.left.next() {
+            Some(word) => Err(Fault::at(Trouble::TooMany, word)),
+            None => Ok(()),
+        }
+    }
+}
+
+fn read_execution<'a>(heap: Global, mut words: Words<'a>) -> Result<Execution, Fault<'a>>
+    ensures { IfOk result Runnable }
+{
+    Ok(Execution {
+        allowed: words.allowance()?,
+        stack: words.size(Trouble::Size)?,
+        page: words.size(Trouble::Size)?,
+        inputs: words.numbers(heap)?,
+    })
+}
+
+fn read_packet<'a>(heap: Global, mut words: Words<'a>) -> Result<PacketPass, Fault<'a>>
     ensures { IfOk result Packable }
 {
-    let allowed = read_allowance(&mut words)?;
-    let stack = size(next(&mut words)?)?;
-    let output = size(next(&mut words)?)?;
-    let apid = short(next(&mut words)?)?;
-    let count = short(next(&mut words)?)?;
-    let input = bytes(heap, next(&mut words)?)?;
-    end(words)?;
-    Ok(PacketPass {
-        allowed,
-        stack,
-        output,
-        apid,
-        count,
-        input,
-    })
+    let pass = PacketPass {
+        allowed: words.allowance()?,
+        stack: words.size(Trouble::Size)?,
+        output: words.size(Trouble::OutputSize)?,
+        apid: words.number()?,
+        count: words.number()?,
+        input: bytes(heap, words.word()?)?,
+    };
+    words.end()?;
+    Ok(pass)
 }
 
-// a field that may be left out
-fn field<'a>(words: &mut std::str::SplitWhitespace<'a>) -> Result<i32, Fault<'a>> {
-    match words.next() {
-        Some(word) => signed(word),
-        None => Ok(0),
-    }
-}
-
-fn end<'a>(mut words: std::str::SplitWhitespace<'a>) -> Result<(), Fault<'a>> {
-    match words.next() {
-        Some(word) => Err(Fault {
-            trouble: Trouble::TooMany,
-            word,
-        }),
-        None => Ok(()),
-    }
-}
-
-fn read_function<'a>(mut words: std::str::SplitWhitespace<'a>) -> Result<Function, Fault<'a>> {
-    let parameters = short(next(&mut words)?)?;
-    let locals = short(next(&mut words)?)?;
-    let body = short(next(&mut words)?)?;
-    end(words)?;
-    Ok(Function {
-        parameters,
-        locals,
-        body,
+fn read_function<'a>(mut words: Words<'a>) -> Result<Function, Fault<'a>> {
+    let function = Function {
+        parameters: words.number()?,
+        locals: words.number()?,
+        body: words.number()?,
         entry: 0,
-    })
+    };
+    words.end()?;
+    Ok(function)
 }
 
-fn read_global<'a>(mut words: std::str::SplitWhitespace<'a>) -> Result<u8, Fault<'a>> {
-    let length = byte(next(&mut words)?)?;
-    end(words)?;
+fn read_global<'a>(mut words: Words<'a>) -> Result<u8, Fault<'a>> {
+    let length = words.number()?;
+    words.end()?;
     Ok(length)
 }
 
-fn read_node<'a>(mut words: std::str::SplitWhitespace<'a>) -> Result<Node, Fault<'a>> {
-    let kind = byte(next(&mut words)?)?;
-    let a = field(&mut words)?;
-    let b = field(&mut words)?;
-    let c = field(&mut words)?;
-    end(words)?;
-    Ok(Node { kind, a, b, c })
+fn read_node<'a>(mut words: Words<'a>) -> Result<Node, Fault<'a>> {
+    let node = Node {
+        kind: words.number()?,
+        a: words.field()?,
+        b: words.field()?,
+        c: words.field()?,
+    };
+    words.end()?;
+    Ok(node)
+}
+
+/// Reads one line for a program that has no station: whatever else a line says that begins with the word of a
+/// station's call, it is not served.
+pub fn read_line_without_station<'a>(heap: Global, text: &'a str) -> Result<Line, Fault<'a>>
+    ensures limited { IfOk result Limited }
+    ensures served { IfOk result IsStationless }
+{
+    if text.starts_with('#') {
+        return Ok(Line::Comment);
+    }
+    let mut words = Words::of(text);
+    let Some(word) = words.left.next() else {
+        return Ok(Line::Blank);
+    };
+    match word {
+        "code" => Ok(Line::Code(words.numbers(heap)?)),
+        "words" => Ok(Line::Words(words.numbers(heap)?)),
+        "execute" => Ok(Line::Execute(read_execution(heap, words)?)),
+        "function" => Ok(Line::Function(read_function(words)?)),
+        "global" => Ok(Line::Global(read_global(words)?)),
+        "node" => Ok(Line::Node(read_node(words)?)),
+        "load" => {
+            words.end()?;
+            Ok(Line::Load)
+        }
+        "pass" | "packet" | "clear" => Err(Fault::at(Trouble::NotServed, word)),
+        _ => Err(Fault::at(Trouble::UnknownWord, word)),
+    }
 }
 
 /// Reads one line. Whatever it says, its sizes are within the limit.
 pub fn read_line<'a>(heap: Global, text: &'a str) -> Result<Line, Fault<'a>>
     ensures { IfOk result Limited }
 {
-    if text.starts_with('#') {
-        return Ok(Line::Comment);
-    }
-    let mut words = text.split_whitespace();
-    let Some(word) = words.next() else {
-        return Ok(Line::Blank);
-    };
-    match word {
-        "code" => Ok(Line::Code(numbers(heap, words)?)),
-        "words" => Ok(Line::Words(numbers(heap, words)?)),
-        "execute" => Ok(Line::Execute(read_execution(heap, words)?)),
-        "function" => Ok(Line::Function(read_function(words)?)),
-        "global" => Ok(Line::Global(read_global(words)?)),
-        "node" => Ok(Line::Node(read_node(words)?)),
-        "load" => {
-            end(words)?;
-            Ok(Line::Load)
-        }
-        "pass" => Ok(Line::Pass(read_execution(heap, words)?)),
-        "packet" => Ok(Line::Packet(read_packet(heap, words)?)),
-        "clear" => {
-            end(words)?;
+    let mut words = Words::of(text);
+    match words.left.next() {
+        Some("pass") => Ok(Line::Pass(read_execution(heap, words)?)),
+        Some("packet") => Ok(Line::Packet(read_packet(heap, words)?)),
+        Some("clear") => {
+            words.end()?;
             Ok(Line::Clear)
         }
-        _ => Err(Fault {
-            trouble: Trouble::UnknownWord,
-            word,
-        }),
+        _ => read_line_without_station(heap, text),
     }
 }

@@ -1,5 +1,5 @@
 -- The operations on cells do to a draft what the scheme does to the symbolic code.
-use Rattle.std.proofs.Common.{◌≡◌, ℕ, zero, ◌-◌, Bool, true, false, cond, eqb, List, [], ◌∷◌, length, ℤ, pos, Some, None, Option, sym, refl, ap, ◌∙◌, arith}
+use Rattle.std.proofs.Common.{◌≡◌, ℕ, Bool, true, false, cond, eqb, List, [], ◌∷◌, length, ℤ, pos, Some, None, Option, sym, refl, ap, ◌∙◌, arith}
 use Rattle.meaning.specs.Words.{flag, is_zero, eq_z}
 use Rattle.scheme.specs.Code as S
 use Rattle.scheme.specs.Writing as W

@@ -1,4 +1,2 @@
 pub mod DraftLaws
-pub mod Widths
-pub mod Putting
-pub mod Tables
+pub mod Steps

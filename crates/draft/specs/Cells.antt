@@ -1,13 +1,14 @@
 -- The cells of a draft, and what a draft begins with.
-use Rattle.std.specs.Prelude.{ℕ, true, false, cond, List, [], ◌∷◌, get_or, Some, None, Option, slice_index_or}
+use Rattle.std.specs.Prelude.{ℕ, Bool, true, false, not, cond, List, [], ◌∷◌, get_or, Some, None, Option, slice_index_or}
 use Rattle.rules.specs.declared.Instruction.{Instruction}
 use Rattle.rules.specs.declared.Instruction.TheVariants.{Csti, Add, Sub, Mul, Div, Mod, Eq, Lt, Not, Dup, Swap, Ldi, Sti, GetBp, GetSp, IncSp, Goto, IfZero, IfNzro, Call, Tcall, Ret, Printi, LdArgs, Stop}
 use Rattle.draft.specs.declared.cells.Place.{Place}
 use Rattle.draft.specs.declared.cells.Word.{Word}
 use Rattle.draft.specs.declared.cells.Word.TheVariants.{Opcode, Number, Count, To, Entry}
 use Rattle.draft.specs.declared.cells.Cell.{Cell}
+use Rattle.draft.specs.declared.cells.Condition.TheVariants.{Zero, Nonzero}
 use Rattle.draft.specs.declared.cells.Head.{Head}
-use Rattle.draft.specs.declared.cells.Head.TheVariants.{Adds, Scales, Equals, Negates, Pops, JumpsZero, JumpsNonzero, Goes, Other}
+use Rattle.draft.specs.declared.cells.Head.TheVariants.{Adds, Scales, Equals, Negates, Pops, Jumps, Goes, Other}
 
 -- what stands past the end
 abbrev pub no_cell : Cell
@@ -53,8 +54,8 @@ head_of_opcode GetBp m w = Other
 head_of_opcode GetSp m w = Other
 head_of_opcode IncSp m w = on_number w Pops
 head_of_opcode Goto m w = on_to w Goes
-head_of_opcode IfZero m w = on_to w (λ p. JumpsZero p m)
-head_of_opcode IfNzro m w = on_to w (λ p. JumpsNonzero p m)
+head_of_opcode IfZero m w = on_to w (λ p. Jumps Zero p m)
+head_of_opcode IfNzro m w = on_to w (λ p. Jumps Nonzero p m)
 head_of_opcode Call m w = Other
 head_of_opcode Tcall m w = Other
 head_of_opcode Ret m w = Other
@@ -74,6 +75,9 @@ head_of_cells c d = cond c.label Other (head_of_word c.word c.mark d.word)
 
 abbrev pub head_of : List Cell → Head
 head_of D = head_of_cells (slice_index_or D 0 no_cell) (slice_index_or D 1 no_cell)
+
+abbrev pub unlabelled : Cell → Bool
+unlabelled c = not c.label
 
 -- up to the next label
 abbrev pub dead_cells : List Cell → List Cell

@@ -1,3 +1,4 @@
 pub mod Cells
+pub mod Drafted
 pub mod Operations
 pub mod Draft

@@ -8,8 +8,10 @@ use Rattle.draft.specs.declared.cells.Place.{Place}
 use Rattle.draft.specs.declared.cells.Place.TheVariants.{Behind, Loop}
 use Rattle.draft.specs.declared.cells.Word.TheVariants.{Opcode, Number, Count, To, Entry}
 use Rattle.draft.specs.declared.cells.Cell.{Cell}
+use Rattle.draft.specs.declared.cells.Condition.{Condition}
+use Rattle.draft.specs.declared.cells.Condition.TheVariants.{Zero, Nonzero}
 use Rattle.draft.specs.declared.cells.Head.{Head}
-use Rattle.draft.specs.declared.cells.Head.TheVariants.{Adds, Scales, Equals, Negates, Pops, JumpsZero, JumpsNonzero, Goes, Other}
+use Rattle.draft.specs.declared.cells.Head.TheVariants.{Adds, Scales, Equals, Negates, Pops, Jumps, Goes, Other}
 use Rattle.draft.specs.declared.put.Exit.{Exit}
 use Rattle.draft.specs.declared.put.Exit.TheVariants.{Return, Go}
 use Rattle.draft.specs.declared.put.Plan.{Plan}
@@ -35,14 +37,22 @@ go_put p m D = cond (reaches p (length D)) D (jump_put Goto p m D)
 abbrev pub goto_put : Place → ℕ → List Cell → List Cell
 goto_put p m D = go_put p m (dead_cells D)
 
+-- the conditional jump that jumps otherwise, and what jumps so
+abbrev pub opposite : Condition → Condition
+opposite Zero = Nonzero
+opposite Nonzero = Zero
+
+abbrev pub conditional : Condition → Instruction
+conditional Zero = IfZero
+conditional Nonzero = IfNzro
+
 abbrev pub not_by : Head → ℕ → List Cell → List Cell
 not_by Adds n D = cell (Opcode Not) n ∷ D
 not_by Scales n D = cell (Opcode Not) n ∷ D
 not_by (Equals m) n D = cell (Opcode Not) n ∷ D
 not_by Negates n D = cell (Opcode Not) n ∷ D
 not_by Pops n D = cell (Opcode Not) n ∷ D
-not_by (JumpsZero p m) n D = jump_put IfNzro p m (drop 2 D)
-not_by (JumpsNonzero p m) n D = jump_put IfZero p m (drop 2 D)
+not_by (Jumps c p m) n D = jump_put (conditional (opposite c)) p m (drop 2 D)
 not_by (Goes p) n D = cell (Opcode Not) n ∷ D
 not_by Other n D = cell (Opcode Not) n ∷ D
 
@@ -56,8 +66,8 @@ planned Scales z o = cond o (Skip 1) Write
 planned (Equals m) z o = cond z (Negate m) Write
 planned Negates z o = Again
 planned Pops z o = Skip 2
-planned (JumpsZero p m) z o = cond z (Jump p m) (Skip 2)
-planned (JumpsNonzero p m) z o = cond z (Skip 2) (Jump p m)
+planned (Jumps Zero p m) z o = cond z (Jump p m) (Skip 2)
+planned (Jumps Nonzero p m) z o = cond z (Skip 2) (Jump p m)
 planned (Goes p) z o = Write
 planned Other z o = Write
 
@@ -90,8 +100,7 @@ target_by Scales D = Behind (length D)
 target_by (Equals m) D = Behind (length D)
 target_by Negates D = Behind (length D)
 target_by Pops D = Behind (length D)
-target_by (JumpsZero p m) D = Behind (length D)
-target_by (JumpsNonzero p m) D = Behind (length D)
+target_by (Jumps c p m) D = Behind (length D)
 target_by (Goes p) D = p
 target_by Other D = Behind (length D)
 
@@ -101,8 +110,7 @@ labelled_by Scales D = flagged D
 labelled_by (Equals m) D = flagged D
 labelled_by Negates D = flagged D
 labelled_by Pops D = flagged D
-labelled_by (JumpsZero p m) D = flagged D
-labelled_by (JumpsNonzero p m) D = flagged D
+labelled_by (Jumps c p m) D = flagged D
 labelled_by (Goes p) D = D
 labelled_by Other D = flagged D
 

@@ -1,11 +1,13 @@
-// The cells of a draft, one for each word of code that is being written, and what a draft begins with.
-ghost use Rattle.std.specs.Prelude.{◌≡◌, ◌+◌, ◌^◌, ◌<◌, ◌≤◌, length, drop, slice_index_or};
-ghost use Rattle.draft.specs.Cells.{no_cell, cell, flagged, head_of_word, head_of, return_of_word, return_of, dead_cells};
+// The cells of a draft, one for each word of code that is being written, and what they begin with.
+ghost use Rattle.std.specs.Prelude.{◌≡◌, ◌≤◌, length, slice_index_or};
+ghost use Rattle.std.specs.List.{prefix_len};
+ghost use Rattle.draft.specs.Cells.{no_cell, flagged, unlabelled, head_of_word, return_of_word};
+ghost use Rattle.draft.specs.Operations.{opposite, conditional};
 
 use rules::Instruction;
 
 /// Where a jump goes.
-#[derive(Clone, Copy)]
+#[derive(Clone, Copy, PartialEq, Eq, Debug)]
 pub enum Place {
     /// So many words before the end of the code.
     Behind(usize),
@@ -14,7 +16,7 @@ pub enum Place {
 }
 
 /// What one word of the code will be.
-#[derive(Clone, Copy)]
+#[derive(Clone, Copy, PartialEq, Eq, Debug)]
 pub enum Word {
     /// An instruction's number.
     Opcode(Instruction),
@@ -28,16 +30,45 @@ pub enum Word {
 }
 
 /// One word, its mark, and whether a label stands before it.
-#[derive(Clone, Copy)]
+#[derive(Clone, Copy, PartialEq, Eq, Debug)]
 pub struct Cell {
     pub word: Word,
     pub mark: usize,
     pub label: bool,
 }
 
+/// What a conditional jump asks of the top of the stack.
+#[derive(Clone, Copy, PartialEq, Eq, Debug)]
+pub enum Condition {
+    Zero,
+    Nonzero,
+}
+
+impl Condition {
+    /// The other condition.
+    pub fn opposite(self) -> Condition
+        ensures { result ≡ opposite self }
+    {
+        match self {
+            Condition::Zero => Condition::Nonzero,
+            Condition::Nonzero => Condition::Zero,
+        }
+    }
+
+    /// The instruction that jumps so.
+    pub fn instruction(self) -> Instruction
+        ensures { result ≡ conditional self }
+    {
+        match self {
+            Condition::Zero => Instruction::IfZero,
+            Condition::Nonzero => Instruction::IfNzro,
+        }
+    }
+}
+
 /// What code begins with, as far as what is put before it depends on that. Jumps have their place and
 /// their mark, and nothing that is labelled counts.
-#[derive(Clone, Copy)]
+#[derive(Clone, Copy, PartialEq, Eq, Debug)]
 pub enum Head {
     /// ADD or SUB.
     Adds,
@@ -47,132 +78,69 @@ pub enum Head {
     Equals(usize),
     Negates,
     Pops,
-    JumpsZero(Place, usize),
-    JumpsNonzero(Place, usize),
+    Jumps(Condition, Place, usize),
     Goes(Place),
     Other,
 }
 
-// A cell without a label.
-pub(crate) fn plain(word: Word, mark: usize) -> Cell
-    ensures { result ≡ cell word mark }
-{
-    Cell {
-        word,
-        mark,
-        label: false,
-    }
-}
-
-fn head_of_word(word: Word, mark: usize, next: Word) -> Head
+// What code begins with, given its first word with its mark, and its second word.
+pub(crate) fn head_of_word(word: Word, mark: usize, next: Word) -> Head
     ensures { result ≡ head_of_word word mark next }
 {
-    match word {
-        Word::Opcode(op) => match op {
-            Instruction::Add => Head::Adds,
-            Instruction::Sub => Head::Adds,
-            Instruction::Mul => Head::Scales,
-            Instruction::Div => Head::Scales,
-            Instruction::Eq => Head::Equals(mark),
-            Instruction::Not => Head::Negates,
-            Instruction::IncSp => match next {
-                Word::Number(_) => Head::Pops,
-                _ => Head::Other,
-            },
-            Instruction::Goto => match next {
-                Word::To(p) => Head::Goes(p),
-                _ => Head::Other,
-            },
-            Instruction::IfZero => match next {
-                Word::To(p) => Head::JumpsZero(p, mark),
-                _ => Head::Other,
-            },
-            Instruction::IfNzro => match next {
-                Word::To(p) => Head::JumpsNonzero(p, mark),
-                _ => Head::Other,
-            },
-            _ => Head::Other,
-        },
+    match (word, next) {
+        (Word::Opcode(Instruction::Add | Instruction::Sub), _) => Head::Adds,
+        (Word::Opcode(Instruction::Mul | Instruction::Div), _) => Head::Scales,
+        (Word::Opcode(Instruction::Eq), _) => Head::Equals(mark),
+        (Word::Opcode(Instruction::Not), _) => Head::Negates,
+        (Word::Opcode(Instruction::IncSp), Word::Number(_)) => Head::Pops,
+        (Word::Opcode(Instruction::Goto), Word::To(place)) => Head::Goes(place),
+        (Word::Opcode(Instruction::IfZero), Word::To(place)) => {
+            Head::Jumps(Condition::Zero, place, mark)
+        }
+        (Word::Opcode(Instruction::IfNzro), Word::To(place)) => {
+            Head::Jumps(Condition::Nonzero, place, mark)
+        }
         _ => Head::Other,
     }
 }
 
-// The cell at a place, or a labelled one past the end.
-fn cell_at(cells: &[Cell], at: usize) -> Cell
-    ensures { result ≡ slice_index_or cells.now at no_cell }
-{
-    if at < cells.len() {
-        cells[at]
-    } else {
-        Cell {
-            word: Word::Count(0),
-            mark: 0,
-            label: true,
-        }
-    }
-}
-
-/// What the code from `at` on begins with.
-pub fn head_at(cells: &[Cell], at: usize) -> Head
-    requires within { at ≤ length cells.now }
-    requires few { length cells.now < 2 ^ 31 }
-    ensures { result ≡ head_of (drop at cells.now) }
-{
-    let c = cell_at(cells, at);
-    if c.label {
-        return Head::Other;
-    }
-    let d = cell_at(cells, at + 1);
-    head_of_word(c.word, c.mark, d.word)
-}
-
 // The operand of RET, if these are its two words.
-fn return_of_word(word: Word, next: Word) -> Option<u16>
+pub(crate) fn return_of_word(word: Word, next: Word) -> Option<u16>
     ensures { result ≡ return_of_word word next }
 {
-    match word {
-        Word::Opcode(op) => match op {
-            Instruction::Ret => match next {
-                Word::Count(n) => Some(n),
-                _ => None,
-            },
-            _ => None,
-        },
+    match (word, next) {
+        (Word::Opcode(Instruction::Ret), Word::Count(count)) => Some(count),
         _ => None,
     }
 }
 
-/// The operand of RET, labelled or not, if the code from `at` on begins with one.
-pub fn return_at(cells: &[Cell], at: usize) -> Option<u16>
-    requires within { at ≤ length cells.now }
-    requires few { length cells.now < 2 ^ 31 }
-    ensures { result ≡ return_of (drop at cells.now) }
+// What stands past the end of code: the definition's own cell for none.
+const END: Cell = Cell {
+    word: Word::Count(0),
+    mark: 0,
+    label: true,
+};
+
+// The cell at a place of code.
+pub(crate) fn cell_at(code: &[Cell], at: usize) -> Cell
+    ensures { result ≡ slice_index_or code.now at no_cell }
 {
-    let c = cell_at(cells, at);
-    let d = cell_at(cells, at + 1);
-    return_of_word(c.word, d.word)
+    code.get(at).copied().unwrap_or(END)
 }
 
-/// Past the code that nothing reaches.
-pub fn dead(cells: &[Cell], at: usize) -> usize
-    requires within { at ≤ length cells.now }
-    ensures code { drop result cells.now ≡ dead_cells (drop at cells.now) }
-    ensures within { result ≤ length cells.now }
-    ensures back { at ≤ result }
+// Sets a label before code.
+pub(crate) fn flag_first(code: &mut [Cell])
+    ensures { code.new ≡ flagged code.old }
 {
-    let mut p = at;
-    while p < cells.len() && !cells[p].label {
-        p += 1;
+    if let Some(first) = code.first_mut() {
+        first.label = true;
     }
-    p
 }
 
-/// Sets a label before the code from `at` on.
-pub fn flag_at(cells: &mut [Cell], at: usize)
-    requires within { at ≤ length cells.old }
-    ensures { drop at cells.new ≡ flagged (drop at cells.old) }
+// How many cells stand before the first label.
+pub(crate) fn dead_in(code: &[Cell]) -> usize
+    ensures count { result ≡ prefix_len unlabelled code.now }
+    ensures within { result ≤ length code.now }
 {
-    if at < cells.len() {
-        cells[at].label = true;
-    }
+    code.iter().take_while(|cell| !cell.label).count()
 }

@@ -1,12 +1,18 @@
 // What an instruction that may go does to the stack, the board and the registers.
+//
+// That the words in use are no more than the stack has room for stands in each contract, and is no invariant of the
+// store: `resize` asks nothing of its callers, and an invariant would ask it of them. `lent`, `beside` and `inputs` stand
+// apart, here and for steps and runs: callers cite each alone, and one relation over what they speak of has six
+// arguments, which is no shorter.
 #![tactic(auto)]
 
-ghost use Rattle.std.specs.Prelude.{◌≡◌, ◌+◌, ◌-◌, ◌<◌, ◌≤◌, true, false, length, replicate, ℤ, pos, ◌+ℤ◌, ◌-ℤ◌, ◌≤ℤ◌, ◌<ℤ◌, int_rem, slice_index_or, unsigned_abs};
+ghost use Rattle.std.specs.Prelude.{◌≡◌, ◌+◌, ◌-◌, ◌<◌, ◌≤◌, true, false, length, replicate, pos, ◌+ℤ◌, ◌-ℤ◌, int_rem, slice_set, unsigned_abs};
 ghost use Rattle.std.proofs.Math.Seq.{paste};
 ghost use Rattle.board.specs.Meaning.{Framed};
-ghost use Rattle.rules.specs.Limits.{code_limit, depth_limit, stack_limit};
+ghost use Rattle.rules.specs.Limits.{depth_limit, stack_limit};
 ghost use Rattle.rules.specs.Rules.{among as among_first, is_zero as zero_word, up, down, rule, Ready};
-ghost use Rattle.effects.specs.Effects.{state, performed, Tells, quotient as cut_quotient, truth as truth_of, same as same_word};
+ghost use Rattle.effects.specs.Effects.{state, performed, Tells, quotient as cut_quotient};
+ghost use Rattle.effects.specs.Seen.{InCode, Within, Sees};
 ghost use Rattle.effects.specs.Effects.{past as past_of, jumped as jumped_to, branched as branched_to, entered as entered_at, replaced as replaced_by, returned as returned_to};
 
 use answer::Ending;
@@ -16,7 +22,8 @@ use stack::Stack;
 
 // the registers behind an instruction and its operands
 fn past(r: Registers, operands: usize) -> Registers
-    requires { (pos 0 ≤ℤ r.position) × ((r.position <ℤ pos code_limit) × (operands < 4)) }
+    requires in_code { InCode r }
+    requires operands { operands < 4 }
     ensures { result ≡ past_of r operands }
 {
     Registers {
@@ -40,7 +47,7 @@ fn jumped(r: Registers, p: i32) -> Registers
 }
 
 fn branched(r: Registers, p: i32, taken: bool) -> Registers
-    requires { (pos 0 ≤ℤ r.position) × (r.position <ℤ pos code_limit) }
+    requires { InCode r }
     ensures { result ≡ branched_to r p taken }
 {
     if taken { jumped(r, p) } else { past(r, 1) }
@@ -48,7 +55,7 @@ fn branched(r: Registers, p: i32, taken: bool) -> Registers
 
 // where a call goes on after its return
 fn after_call(r: Registers) -> i32
-    requires { (pos 0 ≤ℤ r.position) × (r.position <ℤ pos code_limit) }
+    requires { InCode r }
     ensures { result ≡ r.position +ℤ pos 3 }
 {
     r.position + 3
@@ -89,24 +96,7 @@ fn returned(r: Registers, p: i32, base: i32) -> Registers
     }
 }
 
-fn truth(b: bool) -> i32
-    ensures { result ≡ truth_of b }
-{
-    if b { 1 } else { 0 }
-}
-
-fn is_zero(v: i32) -> bool
-    ensures { result ≡ zero_word v }
-{
-    v == 0
-}
-
-fn same(a: i32, b: i32) -> bool
-    ensures { result ≡ same_word a b }
-{
-    a == b
-}
-
+// The next five are a line each, so that a division or a cast is proved once for all arms.
 fn quotient(a: i32, b: i32) -> i32
     requires { zero_word b ≡ false }
     ensures { result ≡ cut_quotient a b }
@@ -160,14 +150,14 @@ fn raise(stack: &mut Stack<i32>, x: i32)
     }
 }
 
-// an input of the board, which has so many
-fn input_or_zero<B: Board>(board: &B, n: usize) -> i32
-    ensures { result ≡ slice_index_or (B.means board.now).inputs n (pos 0) }
+// writes the board's inputs over as many slots
+fn copy_inputs<B: Board>(slots: &mut [i32], board: &B)
+    requires { length slots.old ≡ length (B.means board.now).inputs }
+    ensures { slots.new ≡ (B.means board.now).inputs }
 {
-    let Some(v) = board.input(n) else {
-        return 0;
-    };
-    v
+    for (n, slot) in slots.iter_mut().enumerate() {
+        *slot = board.input(n).unwrap_or(0);
+    }
 }
 
 // LDARGS: the inputs on top, the last of them uppermost
@@ -181,29 +171,34 @@ fn load_args<B: Board>(stack: &mut Stack<i32>, board: &B, count: usize)
     ensures lender { stack.new.slots.ghost_name ≡ stack.old.slots.ghost_name }
 {
     let used = stack.used;
-    for n in 0..count {
-        let v = input_or_zero(board, n);
-        stack.replace(used + n, v);
-    }
+    copy_inputs(&mut stack.slots[used..used + count], board);
     stack.resize(used + count);
+}
+
+// puts a word on top, in slot `at`, and goes on behind an instruction without operands
+fn put(stack: &mut Stack<i32>, at: usize, word: i32, r: Registers) -> Registers
+    requires in_code { InCode r }
+    requires room { at < length stack.old.slots.now }
+    ensures registers { result ≡ past_of r 0 }
+    ensures slots { stack.new.slots.now ≡ slice_set stack.old.slots.now at word }
+    ensures used { stack.new.used ≡ at + 1 }
+    ensures lender { stack.new.slots.ghost_name ≡ stack.old.slots.ghost_name }
+{
+    stack.settle(at, word);
+    past(r, 0)
 }
 
 /// Carries out an instruction that may go, and answers the registers after it. Only a full page may
 /// still end the run, and then nothing has changed.
+#[tactic(auto, using(std::proofs::lemmas::Int::wraps), unfolding(rules::specs::Rules::framed))]
 pub fn perform<B: Board>(
     o: Instruction,
     v: View,
     stack: &mut Stack<i32>,
     board: &mut B,
 ) -> Result<Registers, Ending>
-    requires low { pos 0 ≤ℤ v.registers.position }
-    requires high { v.registers.position <ℤ pos code_limit }
-    requires deepest { v.deepest ≤ depth_limit }
-    requires capacity { v.capacity ≤ stack_limit }
-    requires within { v.used ≤ v.capacity }
-    requires used { v.used ≡ stack.old.used }
-    requires slots { v.capacity ≡ length stack.old.slots.now }
-    requires inputs { v.inputs ≡ length (B.means board.old).inputs }
+    requires within { Within v }
+    requires sees { Sees v stack.old.slots.now stack.old.used (B.means board.old) }
     requires ready { Ready (rule o v) v }
     ensures tells { Tells
         (performed o v (state stack.old.slots.now stack.old.used (B.means board.old) v.registers))
@@ -221,42 +216,15 @@ pub fn perform<B: Board>(
             stack.settle(v.used, v.x);
             Ok(past(v.registers, 1))
         }
-        Instruction::Add => {
-            stack.settle(v.used - 2, v.second.wrapping_add(v.top));
-            Ok(past(v.registers, 0))
-        }
-        Instruction::Sub => {
-            stack.settle(v.used - 2, v.second.wrapping_sub(v.top));
-            Ok(past(v.registers, 0))
-        }
-        Instruction::Mul => {
-            stack.settle(v.used - 2, v.second.wrapping_mul(v.top));
-            Ok(past(v.registers, 0))
-        }
-        Instruction::Div => {
-            stack.settle(v.used - 2, quotient(v.second, v.top));
-            Ok(past(v.registers, 0))
-        }
-        Instruction::Mod => {
-            stack.settle(v.used - 2, remainder(v.second, v.top));
-            Ok(past(v.registers, 0))
-        }
-        Instruction::Eq => {
-            stack.settle(v.used - 2, truth(same(v.second, v.top)));
-            Ok(past(v.registers, 0))
-        }
-        Instruction::Lt => {
-            stack.settle(v.used - 2, truth(v.second < v.top));
-            Ok(past(v.registers, 0))
-        }
-        Instruction::Not => {
-            stack.settle(v.used - 1, truth(is_zero(v.top)));
-            Ok(past(v.registers, 0))
-        }
-        Instruction::Dup => {
-            stack.settle(v.used, v.top);
-            Ok(past(v.registers, 0))
-        }
+        Instruction::Add => Ok(put(stack, v.used - 2, v.second.wrapping_add(v.top), v.registers)),
+        Instruction::Sub => Ok(put(stack, v.used - 2, v.second.wrapping_sub(v.top), v.registers)),
+        Instruction::Mul => Ok(put(stack, v.used - 2, v.second.wrapping_mul(v.top), v.registers)),
+        Instruction::Div => Ok(put(stack, v.used - 2, quotient(v.second, v.top), v.registers)),
+        Instruction::Mod => Ok(put(stack, v.used - 2, remainder(v.second, v.top), v.registers)),
+        Instruction::Eq => Ok(put(stack, v.used - 2, i32::from(v.second == v.top), v.registers)),
+        Instruction::Lt => Ok(put(stack, v.used - 2, i32::from(v.second < v.top), v.registers)),
+        Instruction::Not => Ok(put(stack, v.used - 1, i32::from(v.top == 0), v.registers)),
+        Instruction::Dup => Ok(put(stack, v.used, v.top, v.registers)),
         Instruction::Swap => {
             stack.replace(v.used - 2, v.top);
             stack.replace(v.used - 1, v.second);
@@ -264,22 +232,14 @@ pub fn perform<B: Board>(
         }
         Instruction::Ldi => {
             let word = stack.slots[index(v.top, v.used)];
-            stack.settle(v.used - 1, word);
-            Ok(past(v.registers, 0))
+            Ok(put(stack, v.used - 1, word, v.registers))
         }
         Instruction::Sti => {
             stack.replace(index(v.second, v.used), v.top);
-            stack.settle(v.used - 2, v.top);
-            Ok(past(v.registers, 0))
+            Ok(put(stack, v.used - 2, v.top, v.registers))
         }
-        Instruction::GetBp => {
-            stack.settle(v.used, v.registers.base);
-            Ok(past(v.registers, 0))
-        }
-        Instruction::GetSp => {
-            stack.settle(v.used, top_index(v.used));
-            Ok(past(v.registers, 0))
-        }
+        Instruction::GetBp => Ok(put(stack, v.used, v.registers.base, v.registers)),
+        Instruction::GetSp => Ok(put(stack, v.used, top_index(v.used), v.registers)),
         Instruction::IncSp => {
             raise(stack, v.x);
             Ok(past(v.registers, 1))
@@ -287,11 +247,11 @@ pub fn perform<B: Board>(
         Instruction::Goto => Ok(jumped(v.registers, v.x)),
         Instruction::IfZero => {
             stack.resize(v.used - 1);
-            Ok(branched(v.registers, v.x, is_zero(v.top)))
+            Ok(branched(v.registers, v.x, v.top == 0))
         }
         Instruction::IfNzro => {
             stack.resize(v.used - 1);
-            Ok(branched(v.registers, v.x, !is_zero(v.top)))
+            Ok(branched(v.registers, v.x, v.top != 0))
         }
         Instruction::Call => {
             let arguments = size(v.x);
@@ -310,16 +270,13 @@ pub fn perform<B: Board>(
             Ok(returned(v.registers, position, base))
         }
         Instruction::Printi => {
-            if board.print(v.top) {
-                Ok(past(v.registers, 0))
-            } else {
-                Err(Ending::PageFull)
-            }
+            board.print(v.top).map_err(|_| Ending::PageFull)?;
+            Ok(past(v.registers, 0))
         }
         Instruction::LdArgs => {
             load_args(stack, board, v.inputs);
             Ok(past(v.registers, 0))
         }
-        Instruction::Stop => unreachable(),
+        Instruction::Stop => unreachable!(),
     }
 }

@@ -1,15 +1,15 @@
 -- Entries of runs under the calls' own allowances, beside the definition's history. Of runs only their laws of allowances are used.
 use Rattle.std.proofs.Common.{◌≡◌, ℕ, ◌⊎◌, List, [], ◌∷◌, ◌++◌, sym, refl, ap, ◌∙◌, inl, inr, arith}
 use Rattle.std.proofs.lemmas.Bool.{cases_lt}
-use Rattle.answer.specs.declared.Answer.{Answer}
-use Rattle.meaning.specs.Run.{Record, run, Starved, Covers}
+use Rattle.meaning.specs.Run.{Record, Starved, Covers}
 use Rattle.meaning.proofs.Runs.{cases_starved, free_within, free_beyond, first_part}
 use Rattle.history.specs.declared.Said.TheVariants.{Answered}
-use Rattle.history.specs.Calls.{Pass, Call, load, pass, clear}
+use Rattle.history.specs.Calls.{Pass, Call, pass}
 use Rattle.history.specs.History.{State, Entry, start, after, loaded_in, FreeRun, entry, Makes, accepts, rejects, declines, runs, clears, Told, told_end, told_more, told_off}
 use Rattle.history.specs.Promises.{Enough, Within, Comes, comes_here, comes_on, run_of, Short, Apart, Parted, Keeps, entry_of, stepped, played}
 
-before : {x y : Entry} {xs ys : List Entry} → x ≡ y → xs ≡ ys → x ∷ xs ≡ y ∷ ys
+-- entries that are equal part by part
+pub before : {x y : Entry} {xs ys : List Entry} → x ≡ y → xs ≡ ys → x ∷ xs ≡ y ∷ ys
 before p q = cc
 
 tail_of : {x y : Entry} {xs ys : List Entry} → x ∷ xs ≡ y ∷ ys → xs ≡ ys

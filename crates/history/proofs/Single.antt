@@ -6,6 +6,7 @@ use Rattle.meaning.proofs.Runs.{free_once}
 use Rattle.history.specs.Calls.{Tables, Pass, Call, load, pass, clear, load_refusal}
 use Rattle.history.specs.History.{State, Entry, start, refusal, loaded_in, FreeRun, Makes, accepts, rejects, declines, runs, clears, Told, told_end, told_more, told_off}
 use Rattle.history.specs.Promises.{OneHistory}
+use Rattle.history.proofs.Keeping.{before}
 
 clash : (o : Option Refusal) (why : Refusal) → o ≡ None → o ≡ Some why → ⊥
 clash o why p q = let z : ◌≡◌ {A = ℕ} 0 1 = cc in omega arith
@@ -26,12 +27,9 @@ one_step (runs {σ = σ} {p = p} {r = r} f a) (runs {r = r'} g b) =
     (rw q refl, rw q refl)
 one_step clears clears = (refl, refl)
 
-joined : {x y : Entry} {xs ys : List Entry} → x ≡ y → xs ≡ ys → x ∷ xs ≡ y ∷ ys
-joined p q = cc
-
 unique : {σ : State} {cs : List Call} {hs hs' : List Entry} → Told σ cs hs → Told σ cs hs' → hs ≡ hs'
 unique told_end told_end = refl
-unique (told_more a x) (told_more b y) = let q = one_step a b in joined q.0 (unique x (rw q.1 y))
+unique (told_more a x) (told_more b y) = let q = one_step a b in before q.0 (unique x (rw q.1 y))
 unique (told_more (declines f) x) (told_off g none) = absurd (clash _ _ g f)
 unique (told_more (runs {r = r} f a) x) (told_off g none) = absurd (none r a)
 unique (told_off g none) (told_more (declines f) x) = absurd (clash _ _ g f)

@@ -26,6 +26,9 @@ pub record Tables : Type 0 where
   pub lengths : List ℕ
   pub nodes : List Node
 
+abbrev pub tables : List Function → List ℕ → List Node → Tables
+tables fs gs xs = record { functions = fs; lengths = gs; nodes = xs }
+
 -- what a pass is handed: an allowance, a stack of so many words, a board. A packet pass is the pass within it, with what refuses it before that
 -- pass: `early` is none for a plain pass.
 pub record Pass : Type 0 where

@@ -1,7 +1,7 @@
 -- The history of a list of calls, by the definition of what a script means. No code is read.
 use Rattle.std.specs.Prelude.{◌≡◌, ℕ, List, [], ◌∷◌, length, replicate, ℤ, pos, Some, None, sum, Option, slice_index_or}
 use Rattle.answer.specs.declared.Ending.{Ending}
-use Rattle.answer.specs.declared.Ending.TheVariants.{Finished, DivisorZero, IndexOutside, PageFull, NoTurnLeft, TooDeep, UnknownInstruction, OutsideCode, StackFull, TooFewWords, NoCaller, NegativeCount}
+use Rattle.answer.specs.declared.Ending.TheVariants.{Finished}
 use Rattle.answer.specs.declared.Refusal.{Refusal}
 use Rattle.script.specs.Least.{or_else}
 use Rattle.meaning.specs.Tree.{Script}
@@ -38,17 +38,7 @@ cleared σ = record { script = σ.script; globals = zeros (length σ.globals) }
 -- the globals that a run leaves, by its ending: only one that finished writes them back
 abbrev pub kept_by : Ending → List ℤ → List ℤ → List ℤ
 kept_by Finished new old = new
-kept_by DivisorZero new old = old
-kept_by IndexOutside new old = old
-kept_by PageFull new old = old
-kept_by NoTurnLeft new old = old
-kept_by TooDeep new old = old
-kept_by UnknownInstruction new old = old
-kept_by OutsideCode new old = old
-kept_by StackFull new old = old
-kept_by TooFewWords new old = old
-kept_by NoCaller new old = old
-kept_by NegativeCount new old = old
+kept_by _ new old = old
 
 abbrev pub after : State → Record → State
 after σ r = record { script = σ.script; globals = kept_by r.answer.ending r.globals σ.globals }

@@ -9,7 +9,7 @@ ghost use Rattle.history.specs.Promises.{Promised, Once};
 use answer::{Answer, Refusal};
 
 /// What a call said.
-#[derive(Clone, Copy)]
+#[derive(Clone, Copy, PartialEq, Eq, Debug)]
 pub enum Said {
     /// A load was accepted, or the globals were cleared.
     Done,

@@ -1,11 +1,11 @@
 // Boards made of other boards: the twelve-bit layer over any board, and a board that is one of two.
 #![tactic(auto)]
 
-ghost use Rattle.std.specs.Prelude.{◌≡◌, ◌∷◌};
+ghost use Rattle.std.specs.Prelude.{◌≡◌};
 ghost use Rattle.layers.specs.Layer.{twelve, lowered, Residue};
 ghost use Rattle.layers.specs.Either.{of_either};
 
-use board::Board;
+use board::{Board, PageFull};
 
 /// How many values twelve bits have.
 const SPAN: i32 = 4_096;
@@ -21,7 +21,7 @@ pub fn twelve_bits(v: i32) -> i32
     if low < SIGN { low } else { low - SPAN }
 }
 
-/// The twelve-bit layer over a board that it owns: each input's low twelve bits, all else as below.
+/// The twelve-bit layer over a board: each input's low twelve bits, all else as below.
 #[derive(Drop)]
 pub struct TwelveBit<B: Board> {
     below: B,
@@ -56,55 +56,16 @@ impl<B: Board> Board for TwelveBit<B> {
     }
 
     fn input(&self, n: usize) -> Option<i32> {
-        match self.below.input(n) {
-            Some(v) => Some(twelve_bits(v)),
-            None => None,
-        }
+        self.below.input(n).map(twelve_bits)
     }
 
-    fn print(&mut self, v: i32) -> bool {
+    fn print(&mut self, v: i32) -> Result<(), PageFull> {
         self.below.print(v)
     }
 }
 
 /// The twelve-bit layer over a board that was lent.
-#[derive(Drop)]
-pub struct TwelveBitOver<'a, B: Board> {
-    below: &'a mut B,
-}
-
-impl<'a, B: Board> TwelveBitOver<'a, B> {
-    /// The layer over a lent board.
-    pub fn over(below: &'a mut B) -> TwelveBitOver<'a, B>
-        ensures below { result.below.now ≡ below.old }
-        ensures lent { result.below.ghost_name ≡ below.entry.ghost_name }
-    {
-        TwelveBitOver { below }
-    }
-}
-
-impl<B: Board> Board for TwelveBitOver<'_, B> {
-    ghost means = { λ b. lowered (B.Board.means b.below.now) };
-
-    ghost lent = { λ b. b.below.ghost_name ∷ B.Board.lent b.below.now };
-
-    ghost beside = { λ b. B.Board.beside b.below.now };
-
-    fn count(&self) -> usize {
-        self.below.count()
-    }
-
-    fn input(&self, n: usize) -> Option<i32> {
-        match self.below.input(n) {
-            Some(word) => Some(twelve_bits(word)),
-            None => None,
-        }
-    }
-
-    fn print(&mut self, v: i32) -> bool {
-        self.below.print(v)
-    }
-}
+pub type TwelveBitOver<'a, B> = TwelveBit<&'a mut B>;
 
 /// One of two boards, so that a list may mix kinds of boards.
 #[derive(Drop)]
@@ -134,7 +95,7 @@ impl<L: Board, R: Board> Board for Either<L, R> {
         }
     }
 
-    fn print(&mut self, v: i32) -> bool {
+    fn print(&mut self, v: i32) -> Result<(), PageFull> {
         match self {
             Either::First(b) => b.print(v),
             Either::Second(b) => b.print(v),

@@ -11,6 +11,7 @@ use Rattle.rules.specs.declared.Instruction.{Instruction}
 use Rattle.rules.specs.Limits.{code_limit}
 use Rattle.rules.specs.Rules.{Puts, words, reading, Rule, rule, first, room, judged, verdict, decided, decode, Fits, Ready, among}
 use Rattle.effects.specs.Effects.{State, Next, halts, effect, unless, late, performed, Tells}
+use Rattle.effects.specs.Seen.{InCode}
 use Rattle.machine.specs.Machine.{Setup, view, acted, step}
 
 no_ending : {A : Type 0} {c : Ending} → Some c ≡ None → A
@@ -135,6 +136,9 @@ pub step_out : (t : Setup) (s : State) → among s.registers.position (length t.
 unfolding step
 step_out t s u = ap (λ (b : Bool). cond b (acted (decode (get_or t.code (nat_abs s.registers.position) (pos 0))) (view t s) s) (halts OutsideCode)) u
 
-pub ranged : (a : ℤ) (n : ℕ) → n ≤ code_limit → among a n ≡ true → (pos 0 ≤ℤ a) × (a <ℤ pos code_limit)
-ranged (pos k) n h e = let j = ltb-true k n e in (omega (arith, ints), omega (arith, ints))
-ranged (negsuc k) n h e = absurd (clash e)
+within_code : (a : ℤ) (n : ℕ) → n ≤ code_limit → among a n ≡ true → (pos 0 ≤ℤ a) × (a <ℤ pos code_limit)
+within_code (pos k) n h e = let j = ltb-true k n e in (omega (arith, ints), omega (arith, ints))
+within_code (negsuc k) n h e = absurd (clash e)
+
+pub ranged : (r : Registers) (n : ℕ) → n ≤ code_limit → among r.position n ≡ true → InCode r
+ranged r n h e = record { low = (within_code r.position n h e).0; high = (within_code r.position n h e).1 }

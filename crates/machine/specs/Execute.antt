@@ -21,6 +21,12 @@ refusal allowed code stack starting =
     (Some (refused reason.Allowance))
     (cond (nat_lt code_limit code || (nat_lt stack_limit stack || nat_lt stack starting)) (Some (refused reason.Sizes)) None)
 
+-- why a run is not allowed so much, if it is not
+abbrev pub allowance_refusal : Allowance → Option Refusal
+allowance_refusal allowed =
+    cond (nat_lt allowed.turns 1 || (nat_lt turns_limit allowed.turns || (nat_lt allowed.depth 1 || nat_lt depth_limit allowed.depth)))
+    (Some (refused reason.Allowance)) None
+
 abbrev pub passes : Option Refusal → Result (Unit {0}) Refusal
 passes None = Ok tt
 passes (Some e) = Err e

@@ -7,7 +7,7 @@ use Rattle.board.specs.Meaning.{Means, has_room}
 use Rattle.meaning.specs.Steps.{State, Out, fine, ended, ◌then◌, guard, branch, restoring, Flow, falls, returns, replaces, next, with_left, with_reading}
 use Rattle.meaning.specs.Meaning.{showing}
 use Rattle.meaning.specs.Run.{Starved}
-use Rattle.meaning.proofs.Onward.{final, Short, quietly, stay, on, Grows, grows_then, grows_print, grows_restoring}
+use Rattle.meaning.proofs.Onward.{final, Short, quietly, stay, Grows, grows_then, grows_print, grows_restoring}
 
 -- what the second run is allowed above the first: turns, and a depth that is no less
 pub record Wider : Type 0 where

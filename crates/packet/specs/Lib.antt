@@ -5,3 +5,4 @@ pub mod Check
 pub mod Output
 pub mod Packed
 pub mod Lender
+pub mod Means

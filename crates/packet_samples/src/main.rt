@@ -2,9 +2,8 @@
 // readings, and the bytes in hexadecimal. An outside reader of the protocol is given these lines.
 #![tactic(auto)]
 
-use packet::{OutputId, write_readings};
-use std::alloc::{AllocError, Global};
-use std::io;
+use packet::{HEADER_BYTES, OutputId, write_readings};
+use std::{fmt, io};
 
 /// An input packet with one count.
 const INPUT: [u8; 8] = [0x00, 0x05, 0xC0, 0x06, 0x00, 0x01, 0x00, 0x2A];
@@ -24,45 +23,41 @@ const IDENTITIES: [(u16, u16); 8] = [
 /// The readings of the packets: the first packet has the first, the next one two, and so on.
 const READINGS: [i32; 8] = [10, -1, i32::MIN, i32::MAX, 0, 256, -65_536, 0x0102_0304];
 
-fn digit(n: u8) -> char {
-    match n {
-        0..=9 => (b'0' + n) as char,
-        10..=15 => (b'a' + (n - 10)) as char,
-        _ => '?',
+/// Bytes, shown in hexadecimal.
+#[derive(Clone, Copy)]
+struct Bytes<'a>(&'a [u8]);
+
+impl fmt::Display for Bytes<'_> {
+    fn fmt<W: fmt::Write>(&self, f: &mut fmt::Formatter<W>) -> fmt::Result {
+        for byte in self.0 {
+            write!(f, "{byte:02x}")?;
+        }
+        Ok(())
     }
 }
 
-/// The first bytes of an output.
-fn hexadecimal(heap: Global, output: &[u8], length: usize) -> Result<String, AllocError> {
-    let mut text = String::new(heap);
-    for byte in output.iter().take(length) {
-        text.push(digit(*byte / 16))?;
-        text.push(digit(*byte % 16))?;
-    }
-    Ok(text)
-}
-
-/// Writes a packet into the output and answers its length, 0 where there is none.
-fn written(output: &mut [u8], apid: u16, count: u16, readings: &[i32]) -> usize {
+/// Writes a packet into the output and answers its bytes, none of them where there is no packet.
+fn written<'a>(output: &'a mut [u8], apid: u16, count: u16, readings: &[i32]) -> &'a [u8] {
     let Ok(id) = OutputId::of(apid, count) else {
-        return 0;
+        return &[];
     };
     let taken = write_readings(&INPUT, output, readings);
-    id.complete(output, taken)
+    let length = id.complete(output, taken);
+    &output[..length]
 }
 
 fn main(rt: HostRuntime) -> io::Result<()> {
     for (i, (apid, count)) in IDENTITIES.iter().enumerate() {
-        let mut output = [0u8; 38];
+        let mut output = [0; 38];
         let n = i + 1;
-        let length = written(&mut output, *apid, *count, &READINGS[0..n]);
-        let packet = hexadecimal(rt.alloc(), &output, length)?;
-        println!(rt; "{apid} {count} {n} {packet}")?;
+        let packet = written(&mut output, *apid, *count, &READINGS[..n]);
+        println!(rt; "{apid} {count} {n} {}", Bytes(packet))?;
     }
     // The largest packet, all of its readings 0: its header alone is printed.
-    let mut output = [0u8; 65_542];
+    let mut output = [0; 65_542];
     let zeros = [0; 16_384];
-    let length = written(&mut output, 2_046, 16_383, &zeros);
-    let header = hexadecimal(rt.alloc(), &output, 6)?;
-    println!(rt; "2046 16383 16384 {header} {length}")
+    let packet = written(&mut output, 2_046, 16_383, &zeros);
+    let length = packet.len();
+    let header = packet.get(..HEADER_BYTES).unwrap_or(packet);
+    println!(rt; "2046 16383 16384 {} {length}", Bytes(header))
 }

@@ -1,6 +1,6 @@
 // Counts and readings through the boards and the layers.
-use board::{Board, TableBoard};
-use layers::{Either, TwelveBit, TwelveBitOver, twelve_bits};
+use board::{Board, PageFull, TableBoard};
+use layers::{Either, TwelveBit, twelve_bits};
 use packet::PacketBoard;
 use std::process::Abort;
 
@@ -21,10 +21,10 @@ fn has_inputs<B: Board>(rt: &impl Abort, board: &B, inputs: &[i32]) {
     assert_eq!(rt; board.input(usize::MAX), None);
 }
 
-fn layered<B: Board>(rt: &impl Abort, below: &mut B, inputs: &[i32]) {
-    let mut layer = TwelveBitOver::over(below);
+fn layered<B: Board + Drop>(rt: &impl Abort, below: B, inputs: &[i32], reading: i32) {
+    let mut layer = TwelveBit::over(below);
     has_inputs(rt, &layer, inputs);
-    assert_eq!(rt; layer.print(4_096), true);
+    assert_eq!(rt; layer.print(reading), Ok(()));
 }
 
 #[test]
@@ -54,10 +54,10 @@ fn over_packets(rt: HostRuntime) {
     let mut board = PacketBoard::over(&COUNTS, &mut output);
     has_inputs(&rt, &board, &WORDS);
     assert_eq!(rt; board.page(), 2);
-    layered(&rt, &mut board, &[-1, -2_048, 2_047, 1]);
+    layered(&rt, &mut board, &[-1, -2_048, 2_047, 1], 4_096);
     assert_eq!(rt; board.len(), 1);
-    assert_eq!(rt; board.print(-1), true);
-    assert_eq!(rt; board.print(7), false);
+    assert_eq!(rt; board.print(-1), Ok(()));
+    assert_eq!(rt; board.print(7), Err(PageFull));
     assert_eq!(rt; board.len(), 2);
     // A reading is not cut to twelve bits.
     let expected: [u8; 15] = [
@@ -70,7 +70,7 @@ fn has_nothing(rt: &impl Abort, input: &[u8], output: &mut [u8]) {
     let mut board = PacketBoard::over(input, output);
     has_inputs(rt, &board, &[]);
     assert_eq!(rt; board.page(), 0);
-    assert_eq!(rt; board.print(1), false);
+    assert_eq!(rt; board.print(1), Err(PageFull));
     for byte in output.iter() {
         assert_eq!(rt; *byte, 0xEE);
     }
@@ -120,21 +120,15 @@ fn over_tables(rt: HostRuntime) {
     let mut page = [0; 2];
     let mut board = TableBoard::over(&WORDS, &mut page);
     has_inputs(&rt, &board, &WORDS);
-    layered(&rt, &mut board, &[-1, -2_048, 2_047, 1]);
-    assert_eq!(rt; board.print(-1), true);
-    assert_eq!(rt; board.print(7), false);
+    layered(&rt, &mut board, &[-1, -2_048, 2_047, 1], 4_096);
+    assert_eq!(rt; board.print(-1), Ok(()));
+    assert_eq!(rt; board.print(7), Err(PageFull));
     assert_eq!(rt; board.readings(), &[4_096, -1][0..2]);
 }
 
-fn mixed<L: Board + Drop, R: Board + Drop>(rt: &impl Abort, board: Either<L, R>, inputs: &[i32]) {
-    let mut layer = TwelveBit::over(board);
-    has_inputs(rt, &layer, inputs);
-    assert_eq!(rt; layer.print(1), true);
-}
-
 fn both<L: Board + Drop, R: Board + Drop>(rt: &impl Abort, first: L, second: R, inputs: &[i32]) {
-    mixed(rt, Either::<L, R>::First(first), inputs);
-    mixed(rt, Either::<L, R>::Second(second), inputs);
+    layered(rt, Either::<L, R>::First(first), inputs, 1);
+    layered(rt, Either::<L, R>::Second(second), inputs, 1);
 }
 
 #[test]

@@ -26,7 +26,7 @@ fn identities(rt: HostRuntime) {
             Err(refusal) => {
                 assert!(rt; !fits);
                 assert_eq!(rt; refusal.reason.number(), 44);
-                assert_eq!(rt; refusal.place, 65_535);
+                assert_eq!(rt; refusal.place_number(), 65_535);
             }
         }
     }

@@ -1,47 +1,22 @@
 -- The short ways out of && and ||, against the scheme, by what is seen at the front of the code.
-use Rattle.std.proofs.Common.{◌≡◌, ℕ, List, [], ◌∷◌, drop, ℤ, pos, sym, refl, ap, ◌∙◌, arith}
+use Rattle.std.proofs.Common.{◌≡◌, ℕ, List, [], ◌∷◌, drop, sym, refl, ap, ◌∙◌, subst}
 use Rattle.scheme.specs.Code as S
 use Rattle.scheme.specs.Writing as W
-use Rattle.rules.specs.declared.Instruction.{Instruction}
-use Rattle.rules.specs.declared.Instruction.TheVariants.{IfZero, IfNzro}
 use Rattle.draft.specs.Cells.{cell, head_of}
-use Rattle.draft.specs.Operations.{place_mark, jump_put, constant_put, target_of, labelled_cells, exit_of, left_cells, exit_put}
+use Rattle.draft.specs.Operations.{place_mark, jump_put, target_of, labelled_cells, opposite, conditional}
 use Rattle.draft.specs.Draft.{place_of, draft}
 use Rattle.draft.specs.declared.cells.Word.TheVariants.{Opcode, To}
 use Rattle.draft.specs.declared.cells.Place.{Place}
-use Rattle.draft.specs.declared.cells.Place.TheVariants.{Behind}
 use Rattle.draft.specs.declared.cells.Cell.{Cell}
+use Rattle.draft.specs.declared.cells.Condition.{Condition}
+use Rattle.draft.specs.declared.cells.Condition.TheVariants.{Zero, Nonzero}
 use Rattle.draft.specs.declared.cells.Head.{Head}
-use Rattle.draft.specs.declared.cells.Head.TheVariants.{Adds, Scales, Equals, Negates, Pops, JumpsZero, JumpsNonzero, Goes, Other}
-use Rattle.draft.specs.declared.put.Exit.{Exit}
+use Rattle.draft.specs.declared.cells.Head.TheVariants.{Adds, Scales, Equals, Negates, Pops, Jumps, Goes, Other}
 use Rattle.draft.proofs.DraftLaws.{head_flagged, mark_mark, draft-labelled, draft-target}
-use Rattle.phrases.specs.Turns.{Finds, IsWay}
-use Rattle.phrases.proofs.Steps.{cst_step, label-step, target-step, left_step, exit_step}
+use Rattle.phrases.specs.Turns.{IsWay, way_before, way_out, decided}
 
-pub short_step : (v : ℤ) (n : ℕ) (D A B G E : List Cell) (x : Exit) (t : Place) → A ≡ left_cells D → x ≡ exit_of D → B ≡ constant_put v n A → G ≡ labelled_cells B → t ≡ target_of B → E ≡ exit_put x n G → Finds D t n E (W.short_way v n)
-short_step v n D A B G E x t ea ex eb eg et ee C h =
-    let K : S.Code = W.add_cst v n (W.left_jump C) in
-    let b : B ≡ draft K = cst_step v n A B eb (W.left_jump C) (left_step D A ea C h) in
-    record {
-      rest = exit_step D x n G E ex ee C h (W.labelled K) (label-step B G eg K b);
-      goes = target-step B t et K b;
-      marked = refl;
-    }
-
--- a head without what only a label sees
-abbrev seen : Head → Head
-seen Adds = Adds
-seen Scales = Scales
-seen (Equals m) = Equals m
-seen Negates = Negates
-seen Pops = Pops
-seen (JumpsZero p m) = JumpsZero p m
-seen (JumpsNonzero p m) = JumpsNonzero p m
-seen (Goes p) = Other
-seen Other = Other
-
--- the head that a view is of
-abbrev pub head_seen : {C : S.Code} → S.View C → Head
+-- the head that a view is of: a jump elsewhere is not seen
+abbrev head_seen : {C : S.Code} → S.View C → Head
 head_seen (S.v_add m C) = Adds
 head_seen (S.v_sub m C) = Adds
 head_seen (S.v_mul m C) = Scales
@@ -49,9 +24,19 @@ head_seen (S.v_div m C) = Scales
 head_seen (S.v_eq m w) = Equals m
 head_seen (S.v_not m w) = Negates
 head_seen (S.v_pop m C) = Pops
-head_seen (S.v_ifzero t m C) = JumpsZero (place_of t) (place_mark (place_of t) m)
-head_seen (S.v_ifnzro t m C) = JumpsNonzero (place_of t) (place_mark (place_of t) m)
+head_seen (S.v_ifzero t m C) = Jumps Zero (place_of t) (place_mark (place_of t) m)
+head_seen (S.v_ifnzro t m C) = Jumps Nonzero (place_of t) (place_mark (place_of t) m)
 head_seen (S.v_rest C) = Other
+
+abbrev seen : Head → Head
+seen Adds = Adds
+seen Scales = Scales
+seen (Equals m) = Equals m
+seen Negates = Negates
+seen Pops = Pops
+seen (Jumps k p m) = Jumps k p m
+seen (Goes p) = Other
+seen Other = Other
 
 sees : (C : S.Code) → seen (head_of (draft C)) ≡ head_seen (S.view C)
 unfolding draft S.view
@@ -84,161 +69,116 @@ sees (S.label ∷ C) = ap seen (head_flagged (draft C))
 sees (S.loop_at w ∷ C) = ap seen (head_flagged (draft C))
 sees (S.entry f ∷ C) = ap seen (head_flagged (draft C))
 
-pub sees_zero : (C : S.Code) (p : Place) (q : ℕ) → JumpsZero p q ≡ head_of (draft C) → JumpsZero p q ≡ head_seen (S.view C)
-sees_zero C p q e = ap seen e ∙ sees C
+-- a jump that is seen is there
+unseen : (h : Head) (k : Condition) (p : Place) (q : ℕ) → seen h ≡ Jumps k p q → h ≡ Jumps k p q
+unseen Adds k p q e = e
+unseen Scales k p q e = e
+unseen (Equals m) k p q e = e
+unseen Negates k p q e = e
+unseen Pops k p q e = e
+unseen (Jumps l s m) k p q e = e
+unseen (Goes s) k p q e = cc
+unseen Other k p q e = e
 
-pub sees_nonzero : (C : S.Code) (p : Place) (q : ℕ) → JumpsNonzero p q ≡ head_of (draft C) → JumpsNonzero p q ≡ head_seen (S.view C)
-sees_nonzero C p q e = ap seen e ∙ sees C
+-- what is known of code that begins with a conditional jump
+record Jump {C : S.Code} (v : S.View C) (j : Condition) (p : Place) (q : ℕ) : Type 0 where
+  to : S.Target
+  mark : ℕ
+  rest : S.Code
+  goes : p ≡ place_of to
+  marked : q ≡ place_mark (place_of to) mark
+  drafted : draft C ≡ jump_put (conditional j) (place_of to) mark (draft rest)
+  with : (n : ℕ) → way_before j n v ≡ record { to = to; mark = mark; rest = C }
+  behind : (n : ℕ) → IsWay (place_of (W.target rest)) n (jump_put (conditional j) (place_of to) mark (draft (W.labelled rest))) (way_before (opposite j) n v)
 
-abbrev kind_seen : Head → ℕ
-kind_seen Adds = 0
-kind_seen Scales = 0
-kind_seen (Equals m) = 0
-kind_seen Negates = 0
-kind_seen Pops = 0
-kind_seen (JumpsZero p m) = 1
-kind_seen (JumpsNonzero p m) = 2
-kind_seen (Goes p) = 0
-kind_seen Other = 0
+jump_seen : {C : S.Code} (v : S.View C) (j : Condition) (p : Place) (q : ℕ) → Jumps j p q ≡ head_seen v → Jump v j p q
+unfolding draft W.and_before W.or_before
+jump_seen (S.v_add m C) j p q e = cc
+jump_seen (S.v_sub m C) j p q e = cc
+jump_seen (S.v_mul m C) j p q e = cc
+jump_seen (S.v_div m C) j p q e = cc
+jump_seen (S.v_eq m w) j p q e = cc
+jump_seen (S.v_not m w) j p q e = cc
+jump_seen (S.v_pop m C) j p q e = cc
+jump_seen (S.v_ifzero t m C) Zero p q e = record {
+  to = t;
+  mark = m;
+  rest = C;
+  goes = cc;
+  marked = cc;
+  drafted = refl;
+  with = λ n. refl;
+  behind = λ n. record { rest = refl; goes = refl; marked = refl };
+}
+jump_seen (S.v_ifzero t m C) Nonzero p q e = cc
+jump_seen (S.v_ifnzro t m C) Zero p q e = cc
+jump_seen (S.v_ifnzro t m C) Nonzero p q e = record {
+  to = t;
+  mark = m;
+  rest = C;
+  goes = cc;
+  marked = cc;
+  drafted = refl;
+  with = λ n. refl;
+  behind = λ n. record { rest = refl; goes = refl; marked = refl };
+}
+jump_seen (S.v_rest C) j p q e = cc
 
-abbrev place_seen : Head → Place
-place_seen Adds = Behind 0
-place_seen Scales = Behind 0
-place_seen (Equals m) = Behind 0
-place_seen Negates = Behind 0
-place_seen Pops = Behind 0
-place_seen (JumpsZero p m) = p
-place_seen (JumpsNonzero p m) = p
-place_seen (Goes p) = p
-place_seen Other = Behind 0
+short_seen : (k : Condition) (n : ℕ) {C : S.Code} (v : S.View C) → ((j : Condition) (p : Place) (q : ℕ) → head_seen v ≡ Jumps j p q → ⊥) → W.short_way (decided k) n C ≡ way_before k n v
+unfolding W.and_before W.or_before
+short_seen Zero n (S.v_add m C) a = refl
+short_seen Zero n (S.v_sub m C) a = refl
+short_seen Zero n (S.v_mul m C) a = refl
+short_seen Zero n (S.v_div m C) a = refl
+short_seen Zero n (S.v_eq m w) a = refl
+short_seen Zero n (S.v_not m w) a = refl
+short_seen Zero n (S.v_pop m C) a = refl
+short_seen Zero n (S.v_rest C) a = refl
+short_seen Nonzero n (S.v_add m C) a = refl
+short_seen Nonzero n (S.v_sub m C) a = refl
+short_seen Nonzero n (S.v_mul m C) a = refl
+short_seen Nonzero n (S.v_div m C) a = refl
+short_seen Nonzero n (S.v_eq m w) a = refl
+short_seen Nonzero n (S.v_not m w) a = refl
+short_seen Nonzero n (S.v_pop m C) a = refl
+short_seen Nonzero n (S.v_rest C) a = refl
+short_seen k n (S.v_ifzero t m C) a = absurd (a _ _ _ refl)
+short_seen k n (S.v_ifnzro t m C) a = absurd (a _ _ _ refl)
 
-abbrev mark_seen : Head → ℕ
-mark_seen Adds = 0
-mark_seen Scales = 0
-mark_seen (Equals m) = m
-mark_seen Negates = 0
-mark_seen Pops = 0
-mark_seen (JumpsZero p m) = m
-mark_seen (JumpsNonzero p m) = m
-mark_seen (Goes p) = 0
-mark_seen Other = 0
+jump_at : (C : S.Code) (j : Condition) (p : Place) (q : ℕ) → Jumps j p q ≡ head_of (draft C) → Jump (S.view C) j p q
+jump_at C j p q e = jump_seen (S.view C) j p q (ap seen e ∙ sees C)
 
--- a head that is no jump of its kind
-pub no_zero : (h g : Head) → h ≡ seen g → ((p : Place) (q : ℕ) → g ≡ JumpsZero p q → ⊥) → (p : Place) (q : ℕ) → h ≡ JumpsZero p q → ⊥
-no_zero h Adds e u p q f = omega (arith, ap kind_seen (sym e ∙ f))
-no_zero h Scales e u p q f = omega (arith, ap kind_seen (sym e ∙ f))
-no_zero h (Equals m) e u p q f = omega (arith, ap kind_seen (sym e ∙ f))
-no_zero h Negates e u p q f = omega (arith, ap kind_seen (sym e ∙ f))
-no_zero h Pops e u p q f = omega (arith, ap kind_seen (sym e ∙ f))
-no_zero h (JumpsZero s m) e u p q f = u s m refl
-no_zero h (JumpsNonzero s m) e u p q f = omega (arith, ap kind_seen (sym e ∙ f))
-no_zero h (Goes s) e u p q f = omega (arith, ap kind_seen (sym e ∙ f))
-no_zero h Other e u p q f = omega (arith, ap kind_seen (sym e ∙ f))
-
-pub no_nonzero : (h g : Head) → h ≡ seen g → ((p : Place) (q : ℕ) → g ≡ JumpsNonzero p q → ⊥) → (p : Place) (q : ℕ) → h ≡ JumpsNonzero p q → ⊥
-no_nonzero h Adds e u p q f = omega (arith, ap kind_seen (sym e ∙ f))
-no_nonzero h Scales e u p q f = omega (arith, ap kind_seen (sym e ∙ f))
-no_nonzero h (Equals m) e u p q f = omega (arith, ap kind_seen (sym e ∙ f))
-no_nonzero h Negates e u p q f = omega (arith, ap kind_seen (sym e ∙ f))
-no_nonzero h Pops e u p q f = omega (arith, ap kind_seen (sym e ∙ f))
-no_nonzero h (JumpsZero s m) e u p q f = omega (arith, ap kind_seen (sym e ∙ f))
-no_nonzero h (JumpsNonzero s m) e u p q f = u s m refl
-no_nonzero h (Goes s) e u p q f = omega (arith, ap kind_seen (sym e ∙ f))
-no_nonzero h Other e u p q f = omega (arith, ap kind_seen (sym e ∙ f))
-
-same_jump : (o : Instruction) (p : Place) (k : ℕ) (t : S.Target) (m : ℕ) (D : List Cell) → p ≡ place_of t → k ≡ place_mark (place_of t) m → jump_put o p k D ≡ jump_put o (place_of t) m D
-same_jump o p k t m D g q = ap (λ x. jump_put o x k D) g ∙ ap (λ y. jump_put o (place_of t) y D) q ∙ ap (λ y. cell (Opcode o) y ∷ (cell (To (place_of t)) y ∷ D)) (mark_mark (place_of t) m)
+same_jump : (k : Condition) (p : Place) (q : ℕ) (t : S.Target) (m : ℕ) (D : List Cell) → p ≡ place_of t → q ≡ place_mark (place_of t) m → jump_put (conditional k) p q D ≡ jump_put (conditional k) (place_of t) m D
+same_jump k p q t m D g e =
+    ap (λ x. jump_put (conditional k) x q D) g ∙ ap (λ y. jump_put (conditional k) (place_of t) y D) e
+    ∙ ap (λ y. cell (Opcode (conditional k)) y ∷ (cell (To (place_of t)) y ∷ D)) (mark_mark (place_of t) m)
 
 same_mark : (p : Place) (q : ℕ) (t : S.Target) (m : ℕ) → p ≡ place_of t → q ≡ place_mark (place_of t) m → place_mark p q ≡ place_mark p m
 same_mark p q t m g e = ap (λ x. place_mark x q) g ∙ ap (place_mark (place_of t)) e ∙ mark_mark (place_of t) m ∙ sym (ap (λ x. place_mark x m) g)
 
 -- with the jump that follows
-pub and_with : (n : ℕ) {C : S.Code} (v : S.View C) (p : Place) (q : ℕ) → JumpsZero p q ≡ head_seen v → IsWay p q (draft C) (W.and_before n v)
-unfolding W.and_before
-and_with n (S.v_add m C) p q e = absurd (omega (arith, ap kind_seen e))
-and_with n (S.v_sub m C) p q e = absurd (omega (arith, ap kind_seen e))
-and_with n (S.v_mul m C) p q e = absurd (omega (arith, ap kind_seen e))
-and_with n (S.v_div m C) p q e = absurd (omega (arith, ap kind_seen e))
-and_with n (S.v_eq m w) p q e = absurd (omega (arith, ap kind_seen e))
-and_with n (S.v_not m w) p q e = absurd (omega (arith, ap kind_seen e))
-and_with n (S.v_pop m C) p q e = absurd (omega (arith, ap kind_seen e))
-and_with n (S.v_ifzero t m C) p q e = let g = ap place_seen e in record { rest = refl; goes = g; marked = same_mark p q t m g (ap mark_seen e) }
-and_with n (S.v_ifnzro t m C) p q e = absurd (omega (arith, ap kind_seen e))
-and_with n (S.v_rest C) p q e = absurd (omega (arith, ap kind_seen e))
+pub way_with : (k : Condition) (n : ℕ) (C : S.Code) (p : Place) (q : ℕ) → Jumps k p q ≡ head_of (draft C) → IsWay p q (draft C) (way_out k n C)
+way_with k n C p q e =
+    let J = jump_at C k p q e in
+    subst (IsWay p q (draft C)) (sym (J.with n)) (record { rest = refl; goes = J.goes; marked = same_mark p q J.to J.mark J.goes J.marked })
+
+pub other : (j k : Condition) → (j ≡ k → ⊥) → k ≡ opposite j
+other Zero Zero u = absurd (u refl)
+other Zero Nonzero u = refl
+other Nonzero Zero u = refl
+other Nonzero Nonzero u = absurd (u refl)
 
 -- behind the jump that follows
-pub and_behind : (n : ℕ) {C : S.Code} (v : S.View C) (p : Place) (q : ℕ) (to : Place) (E : List Cell) → JumpsNonzero p q ≡ head_seen v → to ≡ target_of (drop 2 (draft C)) → E ≡ jump_put IfNzro p q (labelled_cells (drop 2 (draft C))) → IsWay to n E (W.and_before n v)
-unfolding draft W.and_before
-and_behind n (S.v_add m C) p q to E e f g = absurd (omega (arith, ap kind_seen e))
-and_behind n (S.v_sub m C) p q to E e f g = absurd (omega (arith, ap kind_seen e))
-and_behind n (S.v_mul m C) p q to E e f g = absurd (omega (arith, ap kind_seen e))
-and_behind n (S.v_div m C) p q to E e f g = absurd (omega (arith, ap kind_seen e))
-and_behind n (S.v_eq m w) p q to E e f g = absurd (omega (arith, ap kind_seen e))
-and_behind n (S.v_not m w) p q to E e f g = absurd (omega (arith, ap kind_seen e))
-and_behind n (S.v_pop m C) p q to E e f g = absurd (omega (arith, ap kind_seen e))
-and_behind n (S.v_ifzero t m C) p q to E e f g = absurd (omega (arith, ap kind_seen e))
-and_behind n (S.v_ifnzro t m C) p q to E e f g = record { rest = g ∙ same_jump IfNzro p q t m (labelled_cells (draft C)) (ap place_seen e) (ap mark_seen e) ∙ ap (jump_put IfNzro (place_of t) m) (sym (draft-labelled C)); goes = f ∙ sym (draft-target C); marked = refl }
-and_behind n (S.v_rest C) p q to E e f g = absurd (omega (arith, ap kind_seen e))
+pub way_behind : (k : Condition) (n : ℕ) (C : S.Code) (p to : Place) (q : ℕ) (E : List Cell) → Jumps k p q ≡ head_of (draft C) → to ≡ target_of (drop 2 (draft C)) → E ≡ jump_put (conditional k) p q (labelled_cells (drop 2 (draft C)))
+    → IsWay to n E (way_out (opposite k) n C)
+way_behind k n C p to q E e f g =
+    let J = jump_at C k p q e in
+    let r : drop 2 (draft C) ≡ draft J.rest = ap (drop 2) J.drafted in
+    let t : to ≡ place_of (W.target J.rest) = f ∙ ap target_of r ∙ sym (draft-target J.rest) in
+    let l : E ≡ jump_put (conditional k) (place_of J.to) J.mark (draft (W.labelled J.rest)) =
+    g ∙ ap (λ D. jump_put (conditional k) p q (labelled_cells D)) r ∙ ap (jump_put (conditional k) p q) (sym (draft-labelled J.rest)) ∙ same_jump k p q J.to J.mark _ J.goes J.marked in
+    rw (t, l) (J.behind n)
 
 -- where no such jump follows
-pub and_short : (n : ℕ) {C : S.Code} (v : S.View C) → ((p : Place) (q : ℕ) → head_seen v ≡ JumpsZero p q → ⊥) → ((p : Place) (q : ℕ) → head_seen v ≡ JumpsNonzero p q → ⊥) → W.short_way (pos 0) n C ≡ W.and_before n v
-unfolding W.and_before
-and_short n (S.v_add m C) a b = refl
-and_short n (S.v_sub m C) a b = refl
-and_short n (S.v_mul m C) a b = refl
-and_short n (S.v_div m C) a b = refl
-and_short n (S.v_eq m w) a b = refl
-and_short n (S.v_not m w) a b = refl
-and_short n (S.v_pop m C) a b = refl
-and_short n (S.v_ifzero t m C) a b = absurd (a _ _ refl)
-and_short n (S.v_ifnzro t m C) a b = absurd (b _ _ refl)
-and_short n (S.v_rest C) a b = refl
-
--- with the jump that follows
-pub or_with : (n : ℕ) {C : S.Code} (v : S.View C) (p : Place) (q : ℕ) → JumpsNonzero p q ≡ head_seen v → IsWay p q (draft C) (W.or_before n v)
-unfolding W.or_before
-or_with n (S.v_add m C) p q e = absurd (omega (arith, ap kind_seen e))
-or_with n (S.v_sub m C) p q e = absurd (omega (arith, ap kind_seen e))
-or_with n (S.v_mul m C) p q e = absurd (omega (arith, ap kind_seen e))
-or_with n (S.v_div m C) p q e = absurd (omega (arith, ap kind_seen e))
-or_with n (S.v_eq m w) p q e = absurd (omega (arith, ap kind_seen e))
-or_with n (S.v_not m w) p q e = absurd (omega (arith, ap kind_seen e))
-or_with n (S.v_pop m C) p q e = absurd (omega (arith, ap kind_seen e))
-or_with n (S.v_ifzero t m C) p q e = absurd (omega (arith, ap kind_seen e))
-or_with n (S.v_ifnzro t m C) p q e = let g = ap place_seen e in record { rest = refl; goes = g; marked = same_mark p q t m g (ap mark_seen e) }
-or_with n (S.v_rest C) p q e = absurd (omega (arith, ap kind_seen e))
-
--- behind the jump that follows
-pub or_behind : (n : ℕ) {C : S.Code} (v : S.View C) (p : Place) (q : ℕ) (to : Place) (E : List Cell) → JumpsZero p q ≡ head_seen v → to ≡ target_of (drop 2 (draft C)) → E ≡ jump_put IfZero p q (labelled_cells (drop 2 (draft C))) → IsWay to n E (W.or_before n v)
-unfolding draft W.or_before
-or_behind n (S.v_add m C) p q to E e f g = absurd (omega (arith, ap kind_seen e))
-or_behind n (S.v_sub m C) p q to E e f g = absurd (omega (arith, ap kind_seen e))
-or_behind n (S.v_mul m C) p q to E e f g = absurd (omega (arith, ap kind_seen e))
-or_behind n (S.v_div m C) p q to E e f g = absurd (omega (arith, ap kind_seen e))
-or_behind n (S.v_eq m w) p q to E e f g = absurd (omega (arith, ap kind_seen e))
-or_behind n (S.v_not m w) p q to E e f g = absurd (omega (arith, ap kind_seen e))
-or_behind n (S.v_pop m C) p q to E e f g = absurd (omega (arith, ap kind_seen e))
-or_behind n (S.v_ifzero t m C) p q to E e f g = record { rest = g ∙ same_jump IfZero p q t m (labelled_cells (draft C)) (ap place_seen e) (ap mark_seen e) ∙ ap (jump_put IfZero (place_of t) m) (sym (draft-labelled C)); goes = f ∙ sym (draft-target C); marked = refl }
-or_behind n (S.v_ifnzro t m C) p q to E e f g = absurd (omega (arith, ap kind_seen e))
-or_behind n (S.v_rest C) p q to E e f g = absurd (omega (arith, ap kind_seen e))
-
--- where no such jump follows
-pub or_short : (n : ℕ) {C : S.Code} (v : S.View C) → ((p : Place) (q : ℕ) → head_seen v ≡ JumpsZero p q → ⊥) → ((p : Place) (q : ℕ) → head_seen v ≡ JumpsNonzero p q → ⊥) → W.short_way (pos 1) n C ≡ W.or_before n v
-unfolding W.or_before
-or_short n (S.v_add m C) a b = refl
-or_short n (S.v_sub m C) a b = refl
-or_short n (S.v_mul m C) a b = refl
-or_short n (S.v_div m C) a b = refl
-or_short n (S.v_eq m w) a b = refl
-or_short n (S.v_not m w) a b = refl
-or_short n (S.v_pop m C) a b = refl
-or_short n (S.v_ifzero t m C) a b = absurd (a _ _ refl)
-or_short n (S.v_ifnzro t m C) a b = absurd (b _ _ refl)
-or_short n (S.v_rest C) a b = refl
-
--- a head that is no conditional jump, as it is seen
-pub never_zero : (C : S.Code) (h : Head) → h ≡ head_of (draft C) → ((p : Place) (q : ℕ) → h ≡ JumpsZero p q → ⊥) → (p : Place) (q : ℕ) → head_seen (S.view C) ≡ JumpsZero p q → ⊥
-never_zero C h e u = no_zero (head_seen (S.view C)) (head_of (draft C)) (sym (sees C)) (λ p q f. u p q (e ∙ f))
-
-pub never_nonzero : (C : S.Code) (h : Head) → h ≡ head_of (draft C) → ((p : Place) (q : ℕ) → h ≡ JumpsNonzero p q → ⊥) → (p : Place) (q : ℕ) → head_seen (S.view C) ≡ JumpsNonzero p q → ⊥
-never_nonzero C h e u = no_nonzero (head_seen (S.view C)) (head_of (draft C)) (sym (sees C)) (λ p q f. u p q (e ∙ f))
+pub way_short : (k : Condition) (n : ℕ) (C : S.Code) → ((j : Condition) (p : Place) (q : ℕ) → head_of (draft C) ≡ Jumps j p q → ⊥) → W.short_way (decided k) n C ≡ way_out k n C
+way_short k n C u = short_seen k n (S.view C) (λ j p q e. u j p q (unseen (head_of (draft C)) j p q (sees C ∙ e)))

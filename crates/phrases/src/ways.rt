@@ -1,72 +1,75 @@
 // The short ways out of && and ||: they go with a conditional jump that follows, or push the value that the first operand decides.
-ghost use Rattle.std.specs.Prelude.{◌+◌, ◌^◌, ◌<◌, ◌≤◌, length, drop};
+ghost use Rattle.std.specs.Prelude.{◌≡◌, ◌+◌, ◌≤◌};
 ghost use Rattle.scheme.specs.Writing.{short_way, and_way, or_way};
-ghost use Rattle.phrases.specs.Turns.{Finds};
+ghost use Rattle.phrases.specs.Turns.{Finds, decided, way_out};
 
-use draft::cells::{Cell, Head, Place, head_at};
-use draft::put::{put_constant, put_exit, put_jump, put_label, put_way};
-use rules::Instruction;
+use draft::Draft;
+use draft::cells::{Condition, Head, Place};
 
-/// Where the short way out jumps, that jump's mark, and where the code begins that the second operand is written before.
-#[derive(Clone, Copy)]
+/// Where the short way out jumps, and that jump's mark.
+#[derive(Clone, Copy, PartialEq, Eq, Debug)]
 pub struct Way {
     pub to: Place,
     pub mark: usize,
-    pub at: usize,
+}
+
+// The value of && or || where the first operand alone decides it, by being so: told case by case, as a condition has no number.
+fn decided(condition: Condition) -> i32
+    ensures { result ≡ decided condition }
+{
+    match condition {
+        Condition::Zero => 0,
+        Condition::Nonzero => 1,
+    }
 }
 
 // The short way out pushes the value and goes on to what follows.
-fn put_short(cells: &mut [Cell], at: usize, value: i32, mark: usize) -> Way
-    requires within { at ≤ length cells.old }
-    requires few { length cells.old < 2 ^ 31 }
-    requires room { 4 ≤ at }
-    ensures code { Finds (drop at cells.old) result.to result.mark (drop result.at cells.new) (short_way value mark) }
-    ensures within { result.at ≤ length cells.new }
-    ensures room { at ≤ result.at + 4 }
+#[tactic(auto, using(crate::proofs::Steps::drafting))]
+fn put_short(draft: &mut Draft, value: i32, mark: usize) -> Way
+    requires room { 4 ≤ draft.old.room }
+    ensures code { Finds draft.old.code result.to result.mark draft.new.code (short_way value mark) }
+    ensures room { draft.old.room ≤ draft.new.room + 4 }
 {
-    let exit = put_way(cells, at);
-    let p = put_constant(cells, at, value, mark);
-    let to = put_label(cells, p);
-    let q = put_exit(cells, p, exit, mark);
-    Way { to, mark, at: q }
+    let exit = draft.put_way();
+    draft.put_constant(value, mark);
+    let to = draft.put_label();
+    draft.put_exit(exit, mark);
+    Way { to, mark }
+}
+
+// The short way out where the first operand decides by being so.
+#[tactic(auto, using(crate::proofs::Steps::drafting))]
+fn put_way_out(draft: &mut Draft, decides: Condition, mark: usize) -> Way
+    requires room { 4 ≤ draft.old.room }
+    ensures code { Finds draft.old.code result.to result.mark draft.new.code (way_out decides mark) }
+    ensures room { draft.old.room ≤ draft.new.room + 4 }
+{
+    match draft.head() {
+        Head::Jumps(condition, to, mark) if condition == decides => Way { to, mark },
+        Head::Jumps(condition, place, own_mark) => {
+            draft.drop_first(2);
+            let to = draft.put_label();
+            draft.put_jump(condition.instruction(), place, own_mark);
+            Way { to, mark }
+        }
+        _ => put_short(draft, decided(decides), mark),
+    }
 }
 
 /// The short way out of &&.
-pub fn put_and(cells: &mut [Cell], at: usize, mark: usize) -> Way
-    requires within { at ≤ length cells.old }
-    requires few { length cells.old < 2 ^ 31 }
-    requires room { 4 ≤ at }
-    ensures code { Finds (drop at cells.old) result.to result.mark (drop result.at cells.new) (and_way mark) }
-    ensures within { result.at ≤ length cells.new }
-    ensures room { at ≤ result.at + 4 }
+pub fn put_and(draft: &mut Draft, mark: usize) -> Way
+    requires room { 4 ≤ draft.old.room }
+    ensures code { Finds draft.old.code result.to result.mark draft.new.code (and_way mark) }
+    ensures room { draft.old.room ≤ draft.new.room + 4 }
 {
-    match head_at(cells, at) {
-        Head::JumpsZero(p, m) => Way { to: p, mark: m, at },
-        Head::JumpsNonzero(p, m) => {
-            let to = put_label(cells, at + 2);
-            let q = put_jump(cells, at + 2, Instruction::IfNzro, p, m);
-            Way { to, mark, at: q }
-        }
-        _ => put_short(cells, at, 0, mark),
-    }
+    put_way_out(draft, Condition::Zero, mark)
 }
 
 /// The short way out of ||.
-pub fn put_or(cells: &mut [Cell], at: usize, mark: usize) -> Way
-    requires within { at ≤ length cells.old }
-    requires few { length cells.old < 2 ^ 31 }
-    requires room { 4 ≤ at }
-    ensures code { Finds (drop at cells.old) result.to result.mark (drop result.at cells.new) (or_way mark) }
-    ensures within { result.at ≤ length cells.new }
-    ensures room { at ≤ result.at + 4 }
+pub fn put_or(draft: &mut Draft, mark: usize) -> Way
+    requires room { 4 ≤ draft.old.room }
+    ensures code { Finds draft.old.code result.to result.mark draft.new.code (or_way mark) }
+    ensures room { draft.old.room ≤ draft.new.room + 4 }
 {
-    match head_at(cells, at) {
-        Head::JumpsNonzero(p, m) => Way { to: p, mark: m, at },
-        Head::JumpsZero(p, m) => {
-            let to = put_label(cells, at + 2);
-            let q = put_jump(cells, at + 2, Instruction::IfZero, p, m);
-            Way { to, mark, at: q }
-        }
-        _ => put_short(cells, at, 1, mark),
-    }
+    put_way_out(draft, Condition::Nonzero, mark)
 }

@@ -6,38 +6,19 @@ use Rattle.script.specs.declared.Function.{Function}
 use Rattle.script.specs.declared.Node.{Node}
 use Rattle.script.specs.declared.kinds.Sort.{Sort}
 use Rattle.script.specs.declared.kinds.Sort.TheVariants.{Expression, Arguments}
-use Rattle.script.specs.Kinds.{call_kind, node_at, kind_at, is_of, want_a, want_b, want_c}
+use Rattle.script.specs.Kinds.{binary_kind, call_kind, operators, node_at, kind_at, is_of, want_a, want_b, want_c}
 use Rattle.script.specs.Numbering.{number_at, numbers_below}
 use Rattle.script.specs.Scope.{arguments_by, arguments_of, function_at, names_local}
 use Rattle.script.specs.Shape.{names_global}
-use Rattle.script.specs.Shaped.{Number, Child, Children}
+use Rattle.script.specs.Shaped.{Number, Children}
 use Rattle.script.specs.Sound.{Sound}
+use Rattle.script.proofs.ShapedLaws.{Named}
+pub use Rattle.script.proofs.ShapedLaws.{kid_a, kid_b, kid_c}
 use Rattle.script.proofs.ScopeLaws.{arguments_none, arguments_of_call, arguments_of_list}
-use Rattle.meaning.specs.Tree
 use Rattle.meaning.specs.Tables.{args_at}
-use Rattle.meaning.proofs.Decodes.{Names, args_none, args_also}
+use Rattle.meaning.proofs.Decodes.{args_none, args_also}
 use Rattle.scheme.specs.Scheme.{count}
-use Rattle.reading.specs.Nodes.{Kid, Natural, CallParts}
-
--- the child in a field, by the field's number
-abbrev pub Child' : List Node → ℕ → Sort → ℤ → ℕ → Type 0
-Child' xs n s x r = Names n x r × Kid xs n s r
-
-kid : (xs : List Node) (n : ℕ) (s : Sort) (x : ℤ) (r : ℕ) → Child xs n x s → r ≡ nat_abs x → Child' xs n s x r
-kid xs n s x r k e =
-    let i : r ≡ k.0 = e ∙ ap nat_abs k.1 in
-    let l : r < n = omega (arith, i, k.2) in
-    ((k.1 ∙ ap pos (sym i), l), (l, ap (λ (m : ℕ). is_of s (kind_at xs m)) i ∙ k.3))
-
-module _ (xs : List Node) (children : Children xs) (n : ℕ) (here : n < length xs) (k : ℕ) (kind : kind_at xs n ≡ k) (s : Sort) (r : ℕ) where
-  pub kid_a : want_a k ≡ Some s → r ≡ nat_abs (node_at xs n).a → Child' xs n s (node_at xs n).a r
-  kid_a w e = kid xs n s _ r (children.in_a n here s (ap want_a kind ∙ w)) e
-
-  pub kid_b : want_b k ≡ Some s → r ≡ nat_abs (node_at xs n).b → Child' xs n s (node_at xs n).b r
-  kid_b w e = kid xs n s _ r (children.in_b n here s (ap want_b kind ∙ w)) e
-
-  pub kid_c : want_c k ≡ Some s → r ≡ nat_abs (node_at xs n).c → Child' xs n s (node_at xs n).c r
-  kid_c w e = kid xs n s _ r (children.in_c n here s (ap want_c kind ∙ w)) e
+use Rattle.reading.specs.Nodes.{Natural, CallParts}
 
 -- a list has as many arguments as its nodes count
 module _ (xs : List Node) (children : Children xs) (l : ℕ) (here : l < length xs) where
@@ -63,12 +44,25 @@ list_count xs children (suc fuel) l h here e =
     ]
 
 module _ (fs : List Function) (gs : List ℕ) (xs : List Node) (sound : Sound fs gs xs) (n : ℕ) (here : n < length xs) where
+  module _ (k : ℕ) (kind : kind_at xs n ≡ k) (sort : Sort) (r : ℕ) where
+    pub child_a : want_a k ≡ Some sort → r ≡ nat_abs (node_at xs n).a → Named xs n sort (node_at xs n).a r
+    child_a w e = kid_a xs sound.shaped.children n here k kind sort r w e
+
+    pub child_b : want_b k ≡ Some sort → r ≡ nat_abs (node_at xs n).b → Named xs n sort (node_at xs n).b r
+    child_b w e = kid_b xs sound.shaped.children n here k kind sort r w e
+
+    pub child_c : want_c k ≡ Some sort → r ≡ nat_abs (node_at xs n).c → Named xs n sort (node_at xs n).c r
+    child_c w e = kid_c xs sound.shaped.children n here k kind sort r w e
+
   -- a field that names something, by its number
   named : (x : ℤ) (m r : ℕ) → Number x m → r ≡ nat_abs x → (x ≡ pos r) × (r < m)
   named x m r k e = let i : r ≡ k.0 = e ∙ ap nat_abs k.1 in (k.1 ∙ ap pos (sym i), omega (arith, i, k.2))
 
   pub global_in : (k : ℕ) → kind_at xs n ≡ k → names_global k ≡ true → (r : ℕ) → r ≡ nat_abs (node_at xs n).a → r < length gs
   global_in k kind w r e = (named _ (length gs) r (sound.shaped.global n here (ap names_global kind ∙ w)) e).1
+
+  pub operator_in : kind_at xs n ≡ binary_kind → (r : ℕ) → r ≡ nat_abs (node_at xs n).c → r < operators
+  operator_in kind r e = (named _ operators r (sound.shaped.operator n here kind) e).1
 
   pub local_in : (k : ℕ) → kind_at xs n ≡ k → names_local k ≡ true → Natural (node_at xs n).a
   local_in k kind w =
@@ -82,7 +76,7 @@ module _ (fs : List Function) (gs : List ℕ) (xs : List Node) (sound : Sound fs
   pub call_in : kind_at xs n ≡ call_kind → (f l : ℕ) → f ≡ nat_abs (node_at xs n).a → l ≡ nat_abs (node_at xs n).b → CallParts fs xs n f (function_at fs f).parameters l
   call_in kind f l e g =
       let p = named _ (length fs) f (sound.shaped.callees n here kind) e in
-      let b = kid_b xs sound.shaped.children n here 12 kind Arguments l refl g in (
+      let b = child_b 12 kind Arguments l refl g in (
         p.1,
         sym (sound.arguments n f here kind p.0) ∙ arguments_of_call xs n l b.0.0 b.0.1 kind ∙ sym (list_count xs sound.shaped.children (suc l) l (omega arith) (omega (arith, b.1.0)) b.1.1),
         b.1,

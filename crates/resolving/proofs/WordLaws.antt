@@ -1,5 +1,6 @@
 -- The words and marks of a draft are those of the symbolic code.
-use Rattle.std.proofs.Common.{◌≡◌, ℕ, ◌-◌, List, [], ◌∷◌, ◌++◌, map, length, get_or, ℤ, pos, negsuc, sym, refl, ap, ◌∙◌}
+use Rattle.std.proofs.Common.{◌≡◌, ℕ, ◌+◌, ◌-◌, ◌<◌, ◌≤◌, List, [], ◌∷◌, ◌++◌, map, length, get_or, take, set, ℤ, pos, negsuc, sym, refl, ap, ◌∙◌}
+use Rattle.std.proofs.lemmas.List.{take_more_set, map_more, take_all}
 use Rattle.answer.specs.Numbers.{no_place}
 use Rattle.scheme.specs.Code as S
 use Rattle.scheme.specs.Written as M
@@ -9,6 +10,15 @@ use Rattle.draft.specs.Draft.{place_of, draft}
 use Rattle.draft.specs.declared.cells.Cell.{Cell}
 use Rattle.draft.proofs.DraftLaws.{length-draft}
 use Rattle.resolving.specs.Resolved.{length_to, cell_word, cell_mark}
+
+-- a loop that writes f of each element of xs into ys
+pub map_set_more : {X Y : Type 0} (f : X → Y) (xs : List X) (ys : List Y) (i : ℕ) (d : X) (v : Y) → i < length xs → i < length ys → v ≡ f (get_or xs i d) → take i ys ≡ map f (take i xs) → take (i + 1) (set ys i v) ≡ map f (take (i + 1) xs)
+map_set_more f xs ys i d v h k e t = take_more_set ys i v k ∙ ap (λ zs. zs ++ v ∷ []) t ∙ ap (λ z. map f (take i xs) ++ z ∷ []) e ∙ sym (map_more f xs i d h)
+
+pub map_set_all : {X Y : Type 0} (f : X → Y) (xs : List X) (ys : List Y) (i : ℕ) → length xs ≤ i → length ys ≤ i → take i ys ≡ map f (take i xs) → ys ≡ map f xs
+map_set_all f xs ys i h k t = sym (take_all i ys k) ∙ t ∙ ap (map f) (take_all i xs h)
+
+pub ruleset written = (map_set_more, map_set_all)
 
 module _ (starts entries : List ℕ) (whole : ℕ) where
   abbrev loops : ℕ → ℕ

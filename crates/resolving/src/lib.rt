@@ -2,52 +2,11 @@
 #![tactic(auto)]
 
 ghost use Rattle.std.specs.Prelude.{◌≡◌, ◌-◌, ◌^◌, ◌<◌, map, length, pos, slice_index};
-ghost use Rattle.scheme.specs.Written.{number};
 ghost use Rattle.resolving.specs.Resolved.{length_to, word_of, cell_word, cell_mark};
 
 use draft::cells::{Cell, Place, Word};
-use rules::Instruction;
 
-fn number_of(instruction: Instruction) -> u8
-    ensures { result ≡ number instruction }
-{
-    match instruction {
-        Instruction::Csti => 0,
-        Instruction::Add => 1,
-        Instruction::Sub => 2,
-        Instruction::Mul => 3,
-        Instruction::Div => 4,
-        Instruction::Mod => 5,
-        Instruction::Eq => 6,
-        Instruction::Lt => 7,
-        Instruction::Not => 8,
-        Instruction::Dup => 9,
-        Instruction::Swap => 10,
-        Instruction::Ldi => 11,
-        Instruction::Sti => 12,
-        Instruction::GetBp => 13,
-        Instruction::GetSp => 14,
-        Instruction::IncSp => 15,
-        Instruction::Goto => 16,
-        Instruction::IfZero => 17,
-        Instruction::IfNzro => 18,
-        Instruction::Call => 19,
-        Instruction::Tcall => 20,
-        Instruction::Ret => 21,
-        Instruction::Printi => 22,
-        Instruction::LdArgs => 24,
-        Instruction::Stop => 25,
-    }
-}
-
-// An entry of a table, 0 past its end.
-fn listed(table: &[usize], i: usize) -> usize
-    ensures { result ≡ slice_index table.now i }
-{
-    if i < table.len() { table[i] } else { 0 }
-}
-
-/// A position, from how many words there are from there to the end.
+/// A position, from how many words there are from there to the end. The cast is proved here, once.
 pub fn position(whole: usize, back: usize) -> i32
     requires { whole < 2 ^ 31 }
     ensures { result ≡ pos (whole - back) }
@@ -55,29 +14,46 @@ pub fn position(whole: usize, back: usize) -> i32
     whole.saturating_sub(back) as i32
 }
 
-fn length_to(place: Place, starts: &[usize]) -> usize
-    ensures { result ≡ length_to starts.now place }
-{
-    match place {
-        Place::Behind(n) => n,
-        Place::Loop(w) => listed(starts, w),
-    }
+// For each loop and each function how many words there are from there to the end of the code, which has `whole` words; 0 past a table, as the definition has it.
+#[derive(Clone, Copy)]
+struct Ends<'a> {
+    starts: &'a [usize],
+    entries: &'a [usize],
+    whole: usize,
+    ghost few: { whole < 2 ^ 31 },
 }
 
-fn word_of(word: Word, starts: &[usize], entries: &[usize], whole: usize) -> i32
-    requires { whole < 2 ^ 31 }
-    ensures { result ≡ word_of starts.now entries.now whole word }
-{
-    match word {
-        Word::Opcode(instruction) => number_of(instruction) as i32,
-        Word::Number(v) => v,
-        Word::Count(n) => n as i32,
-        Word::To(place) => position(whole, length_to(place, starts)),
-        Word::Entry(f) => position(whole, listed(entries, f)),
+impl Ends<'_> {
+    fn length_to(&self, place: Place) -> usize
+        ensures { result ≡ length_to self.now.starts.now place }
+    {
+        match place {
+            Place::Behind(n) => n,
+            Place::Loop(node) => self.starts.get(node).copied().unwrap_or(0),
+        }
+    }
+
+    fn entry(&self, function: usize) -> usize
+        ensures { result ≡ slice_index self.now.entries.now function }
+    {
+        self.entries.get(function).copied().unwrap_or(0)
+    }
+
+    fn word_of(&self, word: Word) -> i32
+        ensures { result ≡ word_of self.now.starts.now self.now.entries.now self.now.whole word }
+    {
+        match word {
+            Word::Opcode(instruction) => i32::from(instruction.number()),
+            Word::Number(v) => v,
+            Word::Count(n) => i32::from(n),
+            Word::To(place) => position(self.whole, self.length_to(place)),
+            Word::Entry(function) => position(self.whole, self.entry(function)),
+        }
     }
 }
 
 /// The words and the marks of a draft, given for each loop and each function how many words there are from there to the end.
+#[tactic(auto, using(crate::proofs::WordLaws::written))]
 pub fn resolve(
     cells: &[Cell],
     starts: &[usize],
@@ -91,10 +67,15 @@ pub fn resolve(
     ensures words { words.new ≡ map (cell_word starts.now entries.now (length cells.now)) cells.now }
     ensures marks { marks.new ≡ map cell_mark cells.now }
 {
-    let whole = cells.len();
-    for i in 0..whole {
-        let cell = cells[i];
-        words[i] = word_of(cell.word, starts, entries, whole);
+    // Words and marks are two tables: the machine takes the words alone.
+    let ends = Ends {
+        starts,
+        entries,
+        whole: cells.len(),
+    };
+    // One index for the two that are written: a zip of three is no plainer.
+    for (i, cell) in cells.iter().enumerate() {
+        words[i] = ends.word_of(cell.word);
         marks[i] = cell.mark;
     }
 }

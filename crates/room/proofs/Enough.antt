@@ -1,5 +1,5 @@
 -- Every node is used once, so that the rooms of the bodies are together at most what the nodes take one by one.
-use Rattle.std.proofs.Common.{◌≡◌, ℕ, suc, ◌+◌, ◌*◌, ◌<◌, ◌≤◌, true, cond, eqb, List, [], ◌∷◌, length, get_or, ℤ, Some, None, sum_by, Option, refl, ap, ◌∙◌, arith}
+use Rattle.std.proofs.Common.{◌≡◌, ℕ, suc, ◌+◌, ◌*◌, ◌<◌, ◌≤◌, cond, eqb, List, [], ◌∷◌, length, get_or, ℤ, Some, None, sum_by, Option, refl, ap, ◌∙◌, arith}
 use Rattle.std.proofs.lemmas.List.Sums.{sum_by-cons}
 use Rattle.std.proofs.lemmas.Bool.{cond-true, eq-eqb}
 use Rattle.script.specs.declared.Function.{Function}
@@ -12,7 +12,7 @@ use Rattle.script.specs.Shaped.{Child}
 use Rattle.script.specs.Sound.{Sound}
 use Rattle.script.specs.Uses.{uses, child_uses, uses_as_child, uses_as_body}
 use Rattle.room.specs.Bound.{node_room, function_room, functions_room, DraftsHaveRoom}
-use Rattle.room.proofs.Sums.{up_to, sum_le, weigh, weigh_add, weigh_has, weigh_sum, weigh_once, up_to_table}
+use Rattle.room.proofs.Sums.{sum_le, weigh, weigh_add, weigh_has, weigh_sum, weigh_once, up_to_table}
 use Rattle.room.proofs.Nodes.{room_at, in_field, below, stmt_room_lem, bounded}
 
 module _ (fs : List Function) (gs : List ℕ) (xs : List Node) (sound : Sound fs gs xs) where

@@ -1,5 +1,5 @@
 -- Labelled code is never dropped.
-use Rattle.std.proofs.Common.{◌≡◌, ℕ, zero, suc, ◌+◌, Bool, true, false, cond, eqb, List, [], ◌∷◌, length, get_or, ℤ, pos, refl, arith}
+use Rattle.std.proofs.Common.{◌≡◌, ℕ, zero, suc, ◌+◌, Bool, true, false, cond, eqb, List, [], ◌∷◌, get_or, ℤ, pos, refl, arith}
 use Rattle.answer.specs.Numbers.{no_place}
 use Rattle.meaning.specs.Words.{is_zero, flag, eq_z, Operator}
 use Rattle.meaning.specs.Words
@@ -10,7 +10,7 @@ use Rattle.scheme.specs.Code.{Code, Target, Item, is_label, size, View, view, Fr
 use Rattle.scheme.specs.Code
 use Rattle.scheme.specs.Writing.{dead, write_goto, add_goto, not_before, cst_before, add_not, add_cst, labelled_of, target, labelled, left_by, jump_by, and_before, and_way, or_before, or_way, short_way}
 use Rattle.scheme.specs.Scheme.{operator_code, element_code, count, expr_code, args_code, stmt_code, zeros_code, body_code, functions_code}
-use Rattle.scheme.specs.Laws.{same, more, Labelled, Keeps}
+use Rattle.scheme.specs.Laws.{same, more, Keeps}
 
 pub keeps_same : (C : Code) → Keeps C C
 keeps_same C D l s = s

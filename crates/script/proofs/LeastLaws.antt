@@ -1,5 +1,6 @@
 -- A loop that looks for the least number with a property, and what it says when there is none.
-use Rattle.std.proofs.Common.{◌≡◌, ℕ, suc, ◌+◌, ◌<◌, ◌≤◌, Bool, true, false, cond, Some, None, Option, sym, refl, ap, ◌∙◌, add-one, arith}
+use Rattle.std.proofs.Common.{◌≡◌, ℕ, zero, suc, ◌+◌, ◌<◌, ◌≤◌, Bool, true, false, cond, Some, None, Option, sym, refl, ap, ◌∙◌, add-one, arith}
+use Rattle.std.proofs.lemmas.Option.{none-some}
 use native.Mathlib.Decide.{le_ind}
 use Rattle.script.specs.Least.{or_else, least_below}
 
@@ -22,14 +23,17 @@ pub least_found : (p : ℕ → Bool) (i n : ℕ) → least_below p i ≡ None �
 unfolding least_below
 least_found p i n e h l = least_stays p (suc i) i (rw (e, h)) n l
 
-clash : (k : ℕ) → ◌≡◌ {A = Option ℕ} (Some k) None → ⊥
-clash k e = let z : ◌≡◌ {A = ℕ} 0 1 = cc in omega arith
-
 -- where there is none, no number below n has it
 pub least_clear : (p : ℕ → Bool) (n : ℕ) → least_below p n ≡ None → (i : ℕ) → i < n → p i ≡ false
 least_clear p n e i h = go (p i) refl (least_below p i) refl
   where
     go : (b : Bool) → p i ≡ b → (o : Option ℕ) → least_below p i ≡ o → p i ≡ false
     go false q o f = q
-    go true q None f = absurd (clash i (sym (least_found p i n f q h) ∙ e))
-    go true q (Some k) f = absurd (clash k (sym (least_stays p i k f n (omega arith)) ∙ e))
+    go true q None f = absurd (none-some i (sym e ∙ least_found p i n f q h))
+    go true q (Some k) f = absurd (none-some k (sym e ∙ least_stays p i k f n (omega arith)))
+
+-- where no number below n has it, there is none
+pub least_absent : (p : ℕ → Bool) (n : ℕ) → ((i : ℕ) → i < n → p i ≡ false) → least_below p n ≡ None
+unfolding least_below
+least_absent p zero h = refl
+least_absent p (suc n) h = let e = least_absent p n (λ i l. h i (omega arith)) in let q = h n (omega arith) in rw (e, q)

@@ -1,13 +1,14 @@
 pub mod EveryLaws
 pub mod LeastLaws
 pub mod FaultLaws
-pub mod FitLaws
 pub mod ShapeLaws
+pub mod ShapedLaws
 pub mod NumberingLaws
-pub mod KindLaws
+pub mod UsesLaws
 pub mod NestingLaws
 pub mod ScopeLaws
 pub mod LimitsLaws
 pub mod CountLaws
 pub mod RootLaws
 pub mod SoundLaws
+pub mod AcceptLaws

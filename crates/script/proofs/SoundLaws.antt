@@ -3,9 +3,11 @@ use Rattle.std.proofs.Common.{◌≡◌, ℕ, zero, suc, ◌+◌, ◌<◌, ◌�
 use Rattle.std.proofs.lemmas.List.Sums.{get_or-le-sum_by, sum_by-cons}
 use Rattle.std.proofs.lemmas.Bool.{cases_Bool, cases_order, cond-true, cond-false, not-false, or_parts, and_cases, ltb-false, eq-eqb, eqb-true, both_ways}
 use Rattle.std.proofs.lemmas.Bool.Decides.{nat_tests}
+use Rattle.std.proofs.lemmas.Option.{none-some}
 use Rattle.answer.specs.declared.Reason.{Reason}
 use Rattle.script.specs.declared.Function.{Function}
 use Rattle.script.specs.declared.Node.{Node}
+use Rattle.script.specs.declared.Script.{Script}
 use Rattle.script.specs.declared.kinds.Sort.TheVariants.{Expression, Arguments, Statement}
 use Rattle.script.specs.Fault.{fault_at, limits_fault, shape_fault, uses_fault, scope_fault, nesting_fault, nodes_fault}
 use Rattle.script.specs.Kinds.{last_kind, no_node, node_at, kind_at, is_of}
@@ -23,7 +25,7 @@ use Rattle.script.proofs.RootLaws.{child-counts, climb_rests, climb_meets, climb
 use Rattle.script.proofs.ShapeLaws.{number_from, shaped}
 
 -- the locals under a body are those of its one function
-locals_of_lem : (fs : List Function) (r f : ℕ) → f < length fs → (function_at fs f).body ≡ r → uses_as_body fs r ≤ 1 → locals_under fs r ≡ locals_of (function_at fs f)
+pub locals_of_lem : (fs : List Function) (r f : ℕ) → f < length fs → (function_at fs f).body ≡ r → uses_as_body fs r ≤ 1 → locals_under fs r ≡ locals_of (function_at fs f)
 locals_of_lem [] r f h e l = absurd (omega arith)
 locals_of_lem (g ∷ fs) r zero h e l = cond-true _ _ _ (eq-eqb _ _ e)
 locals_of_lem (g ∷ fs) r (suc f) h e l =
@@ -68,7 +70,7 @@ module _ (fs : List Function) (xs : List Node) (once : (n : ℕ) → n < length 
     alone f g h l e = ⊎_elim (λ q. q) (λ q. absurd (⊎_elim (λ z. before f g z l e) (λ z. before g f z h (sym e)) q)) (cases_order f g)
 
 clash : {X : Type 0} {x : X} {P : Type 0} → Some x ≡ None → P
-clash e = let z : ◌≡◌ {A = ℕ} 0 1 = cc in absurd (omega arith)
+clash e = absurd (none-some _ (sym e))
 
 neither : {X : Type 0} (a b : Option X) → or_else a b ≡ None → (a ≡ None) × (b ≡ None)
 neither None b e = (refl, e)
@@ -149,3 +151,7 @@ sound fs gs xs e =
     let c = neither (uses_fault fs xs) _ b.1 in
     let d = neither (scope_fault fs xs) (nesting_fault xs) c.1 in
     sound_from fs gs xs (limited fs gs xs (within fs gs xs a.0)) (shaped fs gs xs (nowhere _ _ b.0)) (nowhere _ _ c.0) (nowhere _ _ d.0) (nowhere _ _ d.1)
+
+-- the tables of an accepted script are sound
+pub script_sound : (s : Script) → Sound s.functions.now s.globals.now s.nodes.now
+script_sound s = sound _ _ _ s.accepted

@@ -1,6 +1,6 @@
 -- Which tables are refused, for what reason and at which node.
 use Rattle.std.specs.Prelude.{ℕ, cond, List, length, Some, None, Ok, Err, Option, Result}
-use Rattle.answer.specs.Numbers.{refused}
+use Rattle.answer.specs.Numbers.{refused, refused_at}
 use Rattle.answer.specs.declared.Reason.{Reason}
 use Rattle.answer.specs.declared.Reason.TheVariants.{Limits, Shape, Uses, Scope, Nesting}
 use Rattle.answer.specs.declared.Refusal.{Refusal}
@@ -16,7 +16,7 @@ use Rattle.script.specs.Uses.{misused}
 -- a refusal at the node, where there is one
 abbrev pub fault_at : Reason → Option ℕ → Option Refusal
 fault_at why None = None
-fault_at why (Some n) = Some (record { reason = why; place = n })
+fault_at why (Some n) = Some (refused_at why n)
 
 -- what a call answers that is refused for a fault
 abbrev pub answer_of : Option Refusal → Result (Unit {0}) Refusal

@@ -1,5 +1,6 @@
 pub mod Limits
 pub mod Kinds
+pub mod Numbered
 pub mod Least
 pub mod Shape
 pub mod Uses

@@ -1,5 +1,5 @@
 -- What a node whose shape was accepted can be relied on for.
-use Rattle.std.specs.Prelude.{◌≡◌, ℕ, ◌<◌, ◌≤◌, true, List, length, ℤ, pos, Some, Option, ◌≢◌}
+use Rattle.std.specs.Prelude.{◌≡◌, ℕ, ◌<◌, ◌≤◌, true, List, length, ℤ, pos, Some, ◌≢◌}
 use Rattle.script.specs.declared.Function.{Function}
 use Rattle.script.specs.declared.Node.{Node}
 use Rattle.script.specs.declared.kinds.Sort.{Sort}
@@ -15,10 +15,6 @@ Number x n = (m : ℕ) × (x ≡ pos m) × (m < n)
 -- a child below the node i, of that sort
 abbrev pub Child : List Node → ℕ → ℤ → Sort → Type 0
 Child xs i x s = (m : ℕ) × (x ≡ pos m) × (m < i) × (is_of s (kind_at xs m) ≡ true)
-
--- an expression or a list below the node i, where the field holds anything
-abbrev pub Operand : List Node → ℕ → ℤ → Option Sort → Type 0
-Operand xs i x want = (s : Sort) → want ≡ Some s → Child xs i x s × (s ≢ Statement)
 
 -- every child is below its parent and of the sort that is wanted there
 pub record Children (xs : List Node) : Type 0 where

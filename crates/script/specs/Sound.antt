@@ -54,3 +54,7 @@ NodesHaveOneFunction = (fs : List Function) (gs : List ℕ) (xs : List Node) →
 
 abbrev pub AcceptedAreSound : Type 0
 AcceptedAreSound = (fs : List Function) (gs : List ℕ) (xs : List Node) → fault fs gs xs ≡ None → Sound fs gs xs
+
+-- and no other tables are so
+abbrev pub SoundAreAccepted : Type 0
+SoundAreAccepted = (fs : List Function) (gs : List ℕ) (xs : List Node) → Sound fs gs xs → fault fs gs xs ≡ None

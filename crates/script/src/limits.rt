@@ -22,77 +22,54 @@ pub const MAX_NESTING: usize = 24;
 fn counts_fit(functions: usize, globals: usize, nodes: usize) -> bool
     ensures { result ≡ counts_fit functions globals nodes }
 {
-    0 < functions
-        && functions <= MAX_FUNCTIONS
+    (1..=MAX_FUNCTIONS).contains(&functions)
         && globals <= MAX_GLOBALS
-        && 0 < nodes
-        && nodes <= MAX_NODES
+        && (1..=MAX_NODES).contains(&nodes)
 }
 
 fn function_fits(function: &Function, nodes: usize) -> bool
     ensures { result ≡ function_fits nodes function.now }
 {
-    let parameters = function.parameters as usize;
-    let locals = parameters + function.locals as usize;
-    parameters <= MAX_PARAMETERS && locals <= MAX_LOCALS && (function.body as usize) < nodes
+    usize::from(function.parameters) <= MAX_PARAMETERS
+        && function.all_locals() <= MAX_LOCALS
+        && usize::from(function.body) < nodes
 }
 
 fn functions_fit(functions: &[Function], nodes: usize) -> bool
     ensures { result ≡ functions_fit functions.now nodes }
 {
-    for function in functions {
-        if !function_fits(function, nodes) {
-            return false;
-        }
-    }
-    true
+    functions
+        .iter()
+        .all(|function| function_fits(function, nodes))
 }
 
 fn global_fits(global: u8) -> bool
     ensures { result ≡ global_fits global }
 {
-    0 < global && global as usize <= MAX_WORDS
+    (1..=MAX_WORDS).contains(&usize::from(global))
 }
 
-fn each_global_fits(globals: &[u8]) -> bool
-    ensures { result ≡ every global_fits globals.now }
-{
-    for global in globals {
-        if !global_fits(*global) {
-            return false;
-        }
-    }
-    true
-}
-
-fn words_of(globals: &[u8]) -> usize
+/// How many words the globals have together.
+pub fn words_of(globals: &[u8]) -> usize
     requires { length globals.now ≤ max_globals }
     ensures { result ≡ sum globals.now }
 {
-    let mut words = 0;
-    for global in globals {
-        words += *global as usize;
-    }
-    words
+    globals.iter().map(|words| usize::from(*words)).sum()
 }
 
 fn globals_fit(globals: &[u8]) -> bool
     requires { length globals.now ≤ max_globals }
     ensures { result ≡ globals_fit globals.now }
 {
-    let each = each_global_fits(globals);
-    let words = words_of(globals);
-    each && words <= MAX_WORDS
+    globals.iter().all(|global| global_fits(*global)) && words_of(globals) <= MAX_WORDS
 }
 
 /// Whether every table, count and body's number is within its limits.
+#[tactic(auto, unfolding(crate::specs::Limits::within_limits))]
 pub(crate) fn within_limits(functions: &[Function], globals: &[u8], nodes: &[Node]) -> bool
     ensures { result ≡ within_limits functions.now globals.now nodes.now }
 {
-    if !counts_fit(functions.len(), globals.len(), nodes.len()) {
-        return false;
-    }
-    let functions_are = functions_fit(functions, nodes.len());
-    let globals_are = globals_fit(globals);
-    functions_are && globals_are
+    counts_fit(functions.len(), globals.len(), nodes.len())
+        && functions_fit(functions, nodes.len())
+        && globals_fit(globals)
 }

@@ -8,16 +8,17 @@
 use script::{Function, Node, check};
 use std::alloc::Global;
 use std::io;
+use std::str::SplitWhitespace;
 
 /// One record of a script's tables.
-#[derive(Clone, Copy)]
+#[derive(Clone, Copy, PartialEq, Eq, Debug)]
 enum Record {
     Function(Function),
     Global(u8),
     Node(Node),
 }
 
-/// The tables as they stand.
+/// The tables as they stand. A contact file's program has such tables too; a library for the two would be longer than both.
 #[derive(Drop)]
 struct Tables {
     functions: Vec<Function>,
@@ -53,51 +54,46 @@ impl Tables {
 }
 
 fn replace<T: Copy>(records: &mut [T], i: usize, record: T) {
-    if i < records.len() {
-        records[i] = record;
+    if let Some(old) = records.get_mut(i) {
+        *old = record;
     }
 }
 
-/// The number at a place of a line's words; 0 where there is none.
-fn number(line: &str, place: usize) -> i32 {
-    match line.split_whitespace().nth(place) {
-        Some(word) => word.parse::<i32>().unwrap_or(0),
-        None => 0,
-    }
+/// The next of a line's words as a number; 0 where there is none.
+fn number(words: &mut SplitWhitespace) -> i32 {
+    words
+        .next()
+        .and_then(|word| word.parse::<i32>().ok())
+        .unwrap_or(0)
 }
 
-fn byte(x: i32) -> u8 {
-    if 0 <= x && x <= 255 { x as u8 } else { 255 }
+// Two widths, a line each: one function for both would be handed the greatest number as well, and be no shorter.
+
+/// The next number of a line where it fits a byte, else 255.
+fn byte(words: &mut SplitWhitespace) -> u8 {
+    u8::try_from(number(words)).unwrap_or(u8::MAX)
 }
 
-fn half(x: i32) -> u16 {
-    if 0 <= x && x <= 65_535 {
-        x as u16
-    } else {
-        65_535
-    }
+/// The next number of a line where it fits two bytes, else 65535.
+fn half(words: &mut SplitWhitespace) -> u16 {
+    u16::try_from(number(words)).unwrap_or(u16::MAX)
 }
 
-/// The record that begins at a place of a line's words.
-fn read_record(line: &str, word: &str, place: u8) -> Option<Record> {
-    let place = place as usize;
-    let a = number(line, place + 1);
-    let b = number(line, place + 2);
-    let c = number(line, place + 3);
-    let d = number(line, place + 4);
+/// The record that a word begins, read from the words after it.
+fn read_record(word: &str, words: &mut SplitWhitespace) -> Option<Record> {
     match word {
         "function" => Some(Record::Function(Function {
-            parameters: half(a),
-            locals: half(b),
-            body: half(c),
+            parameters: half(words),
+            locals: half(words),
+            body: half(words),
             entry: 0,
         })),
-        "global" => Some(Record::Global(byte(a))),
+        "global" => Some(Record::Global(byte(words))),
         "node" => Some(Record::Node(Node {
-            kind: byte(a),
-            a: b,
-            b: c,
-            c: d,
+            kind: byte(words),
+            a: number(words),
+            b: number(words),
+            c: number(words),
         })),
         _ => None,
     }
@@ -109,7 +105,8 @@ fn main(rt: HostRuntime) -> io::Result<()> {
     for line in rt.lines(heap) {
         let line = line?;
         let text = line.as_str();
-        match text.split_whitespace().nth(0) {
+        let mut words = text.split_whitespace();
+        match words.next() {
             None => {}
             Some("#") => println!(rt; "{text}")?,
             Some("new") => tables = Tables::new(heap),
@@ -122,16 +119,14 @@ fn main(rt: HostRuntime) -> io::Result<()> {
                 Err(refusal) => println!(rt; "{refusal}")?,
             },
             Some("set") => {
-                let i = number(text, 1);
-                let word = text.split_whitespace().nth(2).unwrap_or("");
-                if let Some(record) = read_record(text, word, 2) {
-                    if 0 <= i {
-                        tables.set(i as usize, record);
-                    }
+                let place = usize::try_from(number(&mut words));
+                let word = words.next().unwrap_or("");
+                if let (Ok(i), Some(record)) = (place, read_record(word, &mut words)) {
+                    tables.set(i, record);
                 }
             }
             Some(word) => {
-                if let Some(record) = read_record(text, word, 0) {
+                if let Some(record) = read_record(word, &mut words) {
                     tables.add(record)?;
                 }
             }

@@ -1,11 +1,14 @@
 // The board over two tables that it owns: for programs, whose lists of boards are made as they run.
+//
+// It stands beside the board over two lent tables: one type for both would go through traits of lent and of owned tables,
+// since the library's `AsRef` and `AsMut` do not say what they lend, and those traits are longer than this. How many readings there are
+// stands beside the page: a page has room for more than it holds.
 #![tactic(auto)]
 
-ghost use Rattle.std.specs.Prelude.{◌≡◌, ℕ, ◌<◌, ◌≤◌, true, [], ◌∷◌, ◌++◌, length, take, drop, vec_len, nat_lt};
-ghost use Rattle.std.specs.List.{slice_get};
+ghost use Rattle.std.specs.Prelude.{◌≡◌, [], take, drop};
 ghost use Rattle.board.specs.Meaning.{tabled};
 
-use board::Board;
+use board::{Board, PageFull};
 
 /// A board that owns its tables: the words of one are its inputs, the other is its page.
 #[derive(Drop)]
@@ -13,17 +16,6 @@ pub struct Sheet {
     inputs: Vec<i32>,
     page: Vec<i32>,
     used: usize,
-}
-
-// a word by its number, none past the end
-fn word_at(words: &[i32], n: usize) -> Option<i32>
-    ensures { result ≡ slice_get words.now n }
-{
-    if n < words.len() {
-        Some(words[n])
-    } else {
-        None
-    }
 }
 
 impl Sheet {
@@ -45,31 +37,7 @@ impl Sheet {
         ensures { result.now ≡ take self.now.used self.now.page.items }
     {
         let page = self.page.as_slice();
-        if self.used < page.len() {
-            &page[0..self.used]
-        } else {
-            page
-        }
-    }
-
-    // whether the page takes one more reading
-    fn has_room(&self) -> bool
-        ensures there { result ≡ true → self.now.used < vec_len self.now.page }
-        ensures told { result ≡ nat_lt (length (take self.now.used self.now.page.items)) (length self.now.page.items) }
-    {
-        self.used < self.page.len()
-    }
-
-    // writes one more reading
-    fn write(&mut self, v: i32)
-        requires { self.old.used < vec_len self.old.page }
-        ensures inputs { self.new.inputs ≡ self.old.inputs }
-        ensures after { take self.new.used self.new.page.items ≡ take self.old.used self.old.page.items ++ (v ∷ []) }
-        ensures page { length self.new.page.items ≡ length self.old.page.items }
-        ensures beside { (k : ℕ) → length (take self.new.used self.new.page.items) ≤ k → drop k self.new.page.items ≡ drop k self.old.page.items }
-    {
-        self.page[self.used] = v;
-        self.used += 1;
+        page.get(..self.used).unwrap_or(page)
     }
 }
 
@@ -85,14 +53,15 @@ impl Board for Sheet {
     }
 
     fn input(&self, n: usize) -> Option<i32> {
-        word_at(self.inputs.as_slice(), n)
+        self.inputs.get(n).copied()
     }
 
-    fn print(&mut self, v: i32) -> bool {
-        let room = self.has_room();
-        if room {
-            self.write(v);
+    fn print(&mut self, v: i32) -> Result<(), PageFull> {
+        if self.used >= self.page.len() {
+            return Err(PageFull);
         }
-        room
+        self.page[self.used] = v;
+        self.used += 1;
+        Ok(())
     }
 }

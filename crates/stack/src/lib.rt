@@ -6,9 +6,13 @@
 //
 // `over`, `capacity`, `top`, `push`, `pop` and `resize` ask nothing. The others ask for the room that
 // they use: they are for a caller that has made its own tests, in its own order.
+//
+// That no more entries are in use than there are slots is no invariant of the type: `resize` takes any number, and a type that asked
+// for less would ask more of its callers. What a contract says of the slots, the number in use and the loan are clauses apart, since
+// those who call cite each alone.
 #![tactic(auto)]
 
-ghost use Rattle.std.specs.Prelude.{◌≡◌, ◌+◌, ◌-◌, ◌<◌, ◌≤◌, length, replicate, if◌then◌else◌, nat_lt, slice_set, cond};
+ghost use Rattle.std.specs.Prelude.{◌≡◌, ◌+◌, ◌-◌, ◌<◌, ◌≤◌, length, replicate, is_ok, if◌then◌else◌, nat_lt, slice_set, cond};
 ghost use Rattle.std.proofs.Math.Seq.{paste};
 ghost use Rattle.stack.specs.Entries.{top_of, opened, closed};
 
@@ -17,6 +21,19 @@ ghost use Rattle.stack.specs.Entries.{top_of, opened, closed};
 pub struct Stack<'a, T> {
     pub slots: &'a mut [T],
     pub used: usize,
+}
+
+/// Why a push is refused: there is no room for one more entry.
+#[derive(Clone, Copy, PartialEq, Eq, Debug)]
+pub struct Full;
+
+// every slot holds `x`; the library's `fill` asks that a clone cannot fail, which a type parameter does not say
+fn fill<T: Copy>(slots: &mut [T], x: T)
+    ensures { slots.new ≡ replicate (length slots.old) x }
+{
+    for slot in slots.iter_mut() {
+        *slot = x;
+    }
 }
 
 impl<'a, T: Copy> Stack<'a, T> {
@@ -40,29 +57,22 @@ impl<'a, T: Copy> Stack<'a, T> {
     pub fn top(&self) -> Option<T>
         ensures { result ≡ top_of self.now.slots.now self.now.used }
     {
-        let slots = &*self.slots;
-        let used = self.used;
-        if used > 0 && used <= slots.len() {
-            Some(slots[used - 1])
-        } else {
-            None
-        }
+        self.slots.get(..self.used)?.last().copied()
     }
 
     /// Puts an entry on top; refused, changing nothing, where there is no room.
-    pub fn push(&mut self, x: T) -> bool
-        ensures taken { result ≡ nat_lt self.old.used (length self.old.slots.now) }
-        ensures slots { self.new.slots.now ≡ (if result then slice_set self.old.slots.now self.old.used x else self.old.slots.now) }
-        ensures used { self.new.used ≡ cond result (self.old.used + 1) self.old.used }
+    pub fn push(&mut self, x: T) -> Result<(), Full>
+        ensures taken { is_ok result ≡ nat_lt self.old.used (length self.old.slots.now) }
+        ensures slots { self.new.slots.now ≡ (if is_ok result then slice_set self.old.slots.now self.old.used x else self.old.slots.now) }
+        ensures used { self.new.used ≡ cond (is_ok result) (self.old.used + 1) self.old.used }
         ensures lender { self.new.slots.ghost_name ≡ self.old.slots.ghost_name }
     {
-        if self.used < self.slots.len() {
-            self.slots[self.used] = x;
-            self.used += 1;
-            true
-        } else {
-            false
+        if self.used >= self.slots.len() {
+            return Err(Full);
         }
+        self.slots[self.used] = x;
+        self.used += 1;
+        Ok(())
     }
 
     /// Takes the entry on top, which stays in its slot.
@@ -116,9 +126,7 @@ impl<'a, T: Copy> Stack<'a, T> {
         ensures lender { self.new.slots.ghost_name ≡ self.old.slots.ghost_name }
     {
         let used = self.used;
-        for i in 0..m {
-            self.slots[used + i] = x;
-        }
+        fill(&mut self.slots[used..used + m], x);
         self.used = used + m;
     }
 

@@ -186,7 +186,7 @@ module _ (is_entry : ℕ → Bool) (ls : List ℕ) (total : ℕ) where
   ends_stmt (Tree.return n e) C = ends_expr none_of is_entry ls e (S.ret total n ∷ W.dead C) ∙ ends_dead none_of is_entry C
   ends_stmt (Tree.replace n m f l) C = ends_args none_of is_entry ls l (S.tcall (count l) total f m ∷ W.dead C) ∙ ends_dead none_of is_entry C
 
-pub ends-zeros : (is_loop is_entry : ℕ → Bool) (k : ℕ) (C : S.Code) → size_behind is_loop is_entry (zeros_code k C) ≡ size_behind is_loop is_entry C
+pub ends_zeros : (is_loop is_entry : ℕ → Bool) (k : ℕ) (C : S.Code) → size_behind is_loop is_entry (zeros_code k C) ≡ size_behind is_loop is_entry C
 unfolding zeros_code
-ends-zeros is_loop is_entry zero C = refl
-ends-zeros is_loop is_entry (suc k) C = ends_cst is_loop is_entry (pos 0) no_place (zeros_code k C) ∙ ends-zeros is_loop is_entry k C
+ends_zeros is_loop is_entry zero C = refl
+ends_zeros is_loop is_entry (suc k) C = ends_cst is_loop is_entry (pos 0) no_place (zeros_code k C) ∙ ends_zeros is_loop is_entry k C

@@ -2,27 +2,24 @@
 // the stack of open loops, and jumps to it name the loop.
 #![tactic(auto)]
 
-ghost use Rattle.std.specs.Prelude.{◌≡◌, ◌+◌, ◌^◌, ◌<◌, ◌≤◌, length, take, drop};
-ghost use Rattle.script.specs.Sound.{Sound};
+ghost use Rattle.std.specs.Prelude.{◌+◌, ◌<◌, ◌≤◌, length};
 ghost use Rattle.meaning.specs.Tables.{stmt_at};
 ghost use Rattle.scheme.specs.Scheme.{stmt_code};
 ghost use Rattle.phrases.specs.Turns.{Turns};
 ghost use Rattle.reading.specs.Nodes.{IsStatement, whiles};
 ghost use Rattle.reading.specs.Room.{stmt_room};
-ghost use Rattle.statements.specs.Learns.{Learns};
+ghost use Rattle.statements.specs.Learns.{Learns, IsAsBefore};
 
-use draft::cells::{Cell, Place, Word, flag_at};
-use draft::put::{
-    put_exit, put_goto, put_jump, put_label, put_replacing, put_return, put_two, put_way,
-};
+use draft::Draft;
+use draft::cells::{Place, Word};
 use expressions::{put_arguments, put_expression};
 use reading::{Statement, statement_at};
 use rules::Instruction;
-use script::{Function, Node};
+use script::Script;
 use stack::Stack;
 
-/// A loop that is being written: its node, and where its test jumps out.
-#[derive(Clone, Copy)]
+/// A loop that is being written: its node, and where its test jumps out. Open loops are in lent memory, as all that the writer keeps.
+#[derive(Clone, Copy, PartialEq, Eq, Debug)]
 pub struct LoopLabel {
     pub node: usize,
     pub out: Place,
@@ -30,78 +27,65 @@ pub struct LoopLabel {
 
 /// A statement of a function that has `total` parameters and locals. `starts` has for each loop's node how many words there are from its
 /// start to the end of the code.
+#[tactic(auto, using(phrases::proofs::Steps::drafting, crate::proofs::StmtLaws::codes, crate::proofs::StmtLaws::ends))]
 pub fn put_statement(
-    functions: &[Function],
-    globals: &[u8],
-    nodes: &[Node],
+    script: Script,
     n: usize,
     total: u16,
-    cells: &mut [Cell],
-    at: usize,
+    draft: &mut Draft,
     loops: &mut Stack<'_, LoopLabel>,
     starts: &mut [usize],
-) -> usize
-    requires sound { Sound functions.now globals.now nodes.now }
-    requires node { n < length nodes.now }
-    requires sort { IsStatement nodes.now n }
-    requires within { at ≤ length cells.old }
-    requires few { length cells.old < 2 ^ 31 }
-    requires room { stmt_room (stmt_at nodes.now n) ≤ at }
-    requires open { loops.old.used + whiles (stmt_at nodes.now n) ≤ length loops.old.slots.now }
-    requires starts { length nodes.now ≤ length starts.old }
-    ensures code { Turns (drop at cells.old) (drop result cells.new) (stmt_code globals.now total (stmt_at nodes.now n)) }
-    ensures within { result ≤ length cells.new }
-    ensures room { at ≤ result + stmt_room (stmt_at nodes.now n) }
-    ensures used { loops.new.used ≡ loops.old.used }
-    ensures long { length loops.new.slots.now ≡ length loops.old.slots.now }
-    ensures kept { take loops.old.used loops.new.slots.now ≡ take loops.old.used loops.old.slots.now }
-    ensures lender { loops.new.slots.ghost_name ≡ loops.old.slots.ghost_name }
-    ensures starts { Learns (drop at cells.old) starts.old starts.new (stmt_code globals.now total (stmt_at nodes.now n)) }
+)
+    requires node { n < length script.nodes.now }
+    requires sort { IsStatement script.nodes.now n }
+    requires room { stmt_room (stmt_at script.nodes.now n) ≤ draft.old.room }
+    requires open { loops.old.used + whiles (stmt_at script.nodes.now n) ≤ length loops.old.slots.now }
+    requires starts { length script.nodes.now ≤ length starts.old }
+    ensures code { Turns draft.old.code draft.new.code (stmt_code script.entry.globals.now total (stmt_at script.entry.nodes.now n)) }
+    ensures room { draft.old.room ≤ draft.new.room + stmt_room (stmt_at script.entry.nodes.now n) }
+    ensures loops { IsAsBefore loops.old loops.new }
+    ensures starts { Learns draft.old.code starts.old starts.new (stmt_code script.entry.globals.now total (stmt_at script.entry.nodes.now n)) }
 {
-    match statement_at(functions, nodes, n) {
-        Statement::Nothing => at,
+    match statement_at(script.functions, script.nodes, n) {
+        Statement::Nothing => {}
         Statement::Then(a, b) => {
-            let p = put_statement(
-                functions, globals, nodes, b, total, cells, at, loops, starts,
-            );
-            put_statement(functions, globals, nodes, a, total, cells, p, loops, starts)
+            put_statement(script, b, total, draft, loops, starts);
+            put_statement(script, a, total, draft, loops, starts);
         }
         Statement::Evaluate(a) => {
-            let p = put_two(cells, at, Instruction::IncSp, Word::Number(-1), n);
-            put_expression(functions, globals, nodes, a, cells, p)
+            draft.put_two(Instruction::IncSp, Word::Number(-1), n);
+            put_expression(script, a, draft);
         }
         Statement::If(a, b, c) => {
-            let exit = put_way(cells, at);
-            let p = put_statement(
-                functions, globals, nodes, c, total, cells, at, loops, starts,
-            );
-            let to = put_label(cells, p);
-            let q = put_exit(cells, p, exit, n);
-            let r = put_statement(functions, globals, nodes, b, total, cells, q, loops, starts);
-            let s = put_jump(cells, r, Instruction::IfZero, to, n);
-            put_expression(functions, globals, nodes, a, cells, s)
+            let exit = draft.put_way();
+            put_statement(script, c, total, draft, loops, starts);
+            let to = draft.put_label();
+            draft.put_exit(exit, n);
+            put_statement(script, b, total, draft, loops, starts);
+            draft.put_jump(Instruction::IfZero, to, n);
+            put_expression(script, a, draft);
         }
         Statement::While(a, b) => {
-            let out = put_label(cells, at);
-            let _taken = loops.push(LoopLabel { node: n, out });
-            let p = put_goto(cells, at, Place::Loop(n), n);
-            let q = put_statement(functions, globals, nodes, b, total, cells, p, loops, starts);
+            let out = draft.put_label();
+            // There is room for it: the contract asks for that.
+            let _ = loops.push(LoopLabel { node: n, out });
+            draft.put_goto(Place::Loop(n), n);
+            put_statement(script, b, total, draft, loops, starts);
             let Some(open) = loops.pop() else {
-                return q;
+                unreachable!()
             };
-            let r = put_jump(cells, q, Instruction::IfZero, open.out, open.node);
-            let s = put_expression(functions, globals, nodes, a, cells, r);
-            flag_at(cells, s);
-            starts[open.node] = cells.len() - s;
-            s
+            draft.put_jump(Instruction::IfZero, open.out, open.node);
+            put_expression(script, a, draft);
+            draft.flag();
+            starts[open.node] = draft.len();
         }
         Statement::Return(a) => {
-            let p = put_return(cells, at, total, n);
-            put_expression(functions, globals, nodes, a, cells, p)
+            draft.put_return(total, n);
+            put_expression(script, a, draft);
         }
         Statement::Replace(m, f, count, list) => {
-            let p = put_replacing(cells, at, count, total, f, m);
-            put_arguments(functions, globals, nodes, list, cells, p)
+            draft.put_replacing(count, total, f, m);
+            put_arguments(script, list, draft);
         }
     }
 }

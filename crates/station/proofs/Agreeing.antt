@@ -1,12 +1,12 @@
 -- A station that agrees with a state of the definition, and what its calls do to both.
-use Rattle.std.proofs.Common.{◌≡◌, ℕ, List, [], length, drop, replicate, ℤ, pos, Some, None, sum, Option, sym, refl, ap, ◌∙◌, subst, arith}
+use Rattle.std.proofs.Common.{◌≡◌, ℕ, List, [], length, drop, ℤ, pos, Some, None, sum, Option, sym, refl, ap, ◌∙◌, subst, arith}
 use Rattle.std.proofs.lemmas.List.{length-replicate, nil_from_length}
 use Rattle.answer.specs.declared.Refusal.{Refusal}
 use Rattle.meaning.specs.Tree.{Script}
 use Rattle.history.specs.declared.Said.{Said}
 use Rattle.history.specs.declared.Said.TheVariants.{Done, Refused}
 use Rattle.history.specs.Calls.{Tables, Pass, Call, load, pass, clear, load_refusal, pass_refusal}
-use Rattle.history.specs.History.{State, cleared, inputs_of, refusal, zeros}
+use Rattle.history.specs.History.{State, inputs_of, refusal, zeros}
 use Rattle.history.specs.Promises.{Step, loads, passes, stepped}
 use Rattle.script.specs.Least.{or_else}
 use Rattle.station.specs.declared.held.Station.{Station}
@@ -62,10 +62,6 @@ does_by σ c said readings s n e says reads agrees room =
       agrees = subst (λ (x : Step). Agrees x.state s) (sym e) agrees;
       room = room;
     }
-
--- a load that is refused leaves the station
-pub rejected_does : (t : Tables) (s : Station) (why : Refusal) → load_refusal t ≡ Some why → (σ : State) → Agrees σ s → Does σ (load t) (Refused why) [] s
-rejected_does t s why e σ a = does_by σ (load t) (Refused why) [] s (loads σ t (Some why)) (ap (loads σ t) e) refl refl a (refused-room why)
 
 -- an accepted one has it hold the script of the tables
 pub accepted_does : (t : Tables) (s : Station) → load_refusal t ≡ None → Holds t s → globals_of s.globals ≡ zeros (sum t.lengths) → (σ : State)

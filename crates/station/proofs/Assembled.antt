@@ -1,18 +1,17 @@
 -- A pass, put together from its parts.
-use Rattle.std.proofs.Common.{◌≡◌, ℕ, List, ◌++◌, length, take, drop, ℤ, Some, None, Ok, Err, Option, Result, sym, refl, ap, ◌∙◌, subst, arith}
+use Rattle.std.proofs.Common.{◌≡◌, ℕ, List, ◌++◌, length, take, drop, ℤ, Some, None, Ok, Err, Option, sym, refl, ap, ◌∙◌, subst, arith}
 use Rattle.std.proofs.lemmas.List.{take_at, drop_at}
 use Rattle.answer.specs.declared.Answer.{Answer}
 use Rattle.answer.specs.declared.Ending.{Ending}
 use Rattle.answer.specs.declared.Refusal.{Refusal}
 use Rattle.board.specs.Meaning.{Means}
 use Rattle.machine.specs.declared.Allowance.{Allowance}
-use Rattle.machine.specs.Execute.{passes, starting, Ran, Executed}
+use Rattle.machine.specs.Execute.{passes, starting, Ran}
 use Rattle.agreement.specs.Agreement.{stack_words, marked}
-use Rattle.history.specs.declared.Said.TheVariants.{Refused}
 use Rattle.history.specs.History.{kept_by}
 use Rattle.station.specs.declared.held.Station.{Station}
 use Rattle.station.specs.Held.{globals_of, laid, code_of, marks_of, Kept}
-use Rattle.station.specs.Passed.{setup_of, start_of, Passed, said_of}
+use Rattle.station.specs.Passed.{setup_of, start_of, Passed}
 
 -- the refusal that a check hands up is the one that is due
 pub due_of : (o : Option Refusal) (why : Refusal) → Err why ≡ passes o → o ≡ Some why
@@ -22,12 +21,6 @@ due_of (Some x) why e = cc
 pub none_due : (o : Option Refusal) → Ok tt ≡ passes o → o ≡ None
 none_due None e = refl
 none_due (Some x) e = let z : ◌≡◌ {A = ℕ} 0 1 = cc in absurd (omega arith)
-
-pub tells_refused : (r : Result Answer Refusal) (due : Option Refusal) (why : Refusal) (U : Type 0) (R : Answer → Type 0) → r ≡ Err why → due ≡ Some why → U → Executed due r U R
-tells_refused r due why U R e d u = subst (λ (x : Result Answer Refusal). Executed due x U R) (sym e) (d, u)
-
-pub says_refused : (r : Result Answer Refusal) (why : Refusal) → r ≡ Err why → Refused why ≡ said_of r
-says_refused r why e = ap said_of (sym e)
 
 pub assembled : (s s' : Station) (allowed : Allowance) (stack part : List ℤ) (board board' : Means) (ended a : Answer) (code gs : List ℤ) (marks : List ℕ) (room : ℕ)
     → code ≡ code_of s → gs ≡ globals_of s.globals → room ≡ stack_words allowed.depth → length part ≡ room

@@ -1,21 +1,19 @@
 -- What holds of a pass that is not refused.
-use Rattle.std.proofs.Common.{◌≡◌, ℕ, ◌≤◌, Bool, true, false, cond, ◌||◌, eqb, ltb, Some, None, Option, refl, arith, ltb-false, eqb-true}
+use Rattle.std.proofs.Common.{◌≡◌, ℕ, ◌≤◌, Bool, true, false, cond, ◌||◌, ltb, Some, None, Option, refl, sym, arith, ltb-false, eqb-true}
+use Rattle.std.proofs.lemmas.Option.{none-some}
 use Rattle.answer.specs.declared.Refusal.{Refusal}
 use Rattle.rules.specs.Limits.{turns_limit, depth_limit}
 use Rattle.machine.specs.declared.Allowance.{Allowance}
 use Rattle.agreement.specs.Agreement.{stack_words}
 use Rattle.history.specs.Calls.{outside, pass_refusal}
 
-pub clash : {why : Refusal} → Some why ≡ None → ⊥
-clash e = let z : ◌≡◌ {A = ℕ} 0 1 = cc in omega arith
-
 unless-none : (b : Bool) (why : Refusal) (o : Option Refusal) → cond b (Some why) o ≡ None → (b ≡ false) × (o ≡ None)
-unless-none true why o e = absurd (clash e)
+unless-none true why o e = absurd (none-some _ (sym e))
 unless-none false why o e = (refl, e)
 
 passes_none : (b : Bool) (why : Refusal) → cond b None (Some why) ≡ None → b ≡ true
 passes_none true why e = refl
-passes_none false why e = absurd (clash e)
+passes_none false why e = absurd (none-some _ (sym e))
 
 neither : (a b : Bool) → a || b ≡ false → (a ≡ false) × (b ≡ false)
 neither true b e = let z : ◌≡◌ {A = ℕ} 0 1 = cc in absurd (omega arith)
@@ -55,7 +53,7 @@ not_too_deep allowed e =
 
 -- what a pass that is not refused asked of its allowance and its stack, whatever is loaded
 pub asked : (main : Option ℕ) (allowed : Allowance) (stack inputs : ℕ) → pass_refusal main allowed stack inputs ≡ None → (outside allowed ≡ false) × (stack_words allowed.depth ≤ stack)
-asked None allowed stack inputs e = absurd (clash e)
+asked None allowed stack inputs e = absurd (none-some _ (sym e))
 asked (Some main) allowed stack inputs e =
     let a = unless-none _ _ _ e in
     let b = unless-none _ _ _ a.1 in

@@ -1,6 +1,6 @@
 -- Words at the front of others.
-use Rattle.std.proofs.Common.{◌≡◌, ℕ, ◌-◌, ◌≤◌, min, List, ◌++◌, length, take, drop, ℤ, sym, ap, ◌∙◌, inl, inr, append-nil, arith, length-take}
-use Rattle.std.proofs.lemmas.List.{take_at, take_all, take_rest, drop_all}
+use Rattle.std.proofs.Common.{◌≡◌, ℕ, ◌≤◌, List, ◌++◌, length, take, drop, ℤ, ap, ◌∙◌, inl, inr, append-nil, arith, length-take}
+use Rattle.std.proofs.lemmas.List.{take_at, take_all, drop_all}
 use Rattle.std.proofs.lemmas.Bool.{cases_lt}
 use Rattle.station.specs.Held.{laid}
 
@@ -25,12 +25,3 @@ pub kept_front : (used : ℕ) (words new stack : List ℤ) (m : ℕ) → new ≡
 kept_front used words new stack m e l h =
     let long = length-take m stack in
     ap (take used) e ∙ kept used words (take m stack) (omega arith) ∙ ap (λ (n : ℕ). take n stack) l
-
--- from a place on, or nothing where it lies past the end
-pub far_end : {X : Type 0} (from least : ℕ) (xs : List X) → least ≡ min from (length xs) → take (length xs - least) (drop least xs) ≡ drop from xs
-far_end from least xs e =
-    take_rest xs least
-    ∙ elim (cases_lt from (length xs)) [
-      | inl l ↦ ap (λ (n : ℕ). drop n xs) (let q : least ≡ from = omega arith in q)
-      | inr l ↦ drop_all least xs (omega arith) ∙ sym (drop_all from xs (omega arith))
-    ]

@@ -7,9 +7,11 @@ use Rattle.answer.specs.declared.Reason.TheVariants.{CodeLength}
 use Rattle.answer.specs.declared.Refusal.{Refusal}
 use Rattle.rules.specs.Limits.{code_limit}
 use Rattle.script.specs.declared.Function.{Function}
+use Rattle.script.specs.declared.Node.{Node}
 use Rattle.script.specs.Fault.{fault}
 use Rattle.script.specs.Least.{or_else}
 use Rattle.script.specs.Scope.{function_at}
+use Rattle.script.specs.Sound.{Limited}
 use Rattle.script.proofs.SoundLaws.{sound}
 use Rattle.scheme.specs.Code.{Code, size}
 use Rattle.scheme.specs.Scheme.{script_code}
@@ -20,10 +22,10 @@ use Rattle.bounds.proofs.Marks.{marks_fit}
 use Rattle.writer.specs.Program.{answered}
 use Rattle.compiler.specs.Compiled as compiler
 use Rattle.compiler.specs.Compiled.{unless, compiled}
-use Rattle.history.specs.Calls.{Tables, script_in, load_refusal}
+use Rattle.history.specs.Calls.{Tables, tables, script_in, load_refusal}
 use Rattle.history.specs.History.{zeros}
 use Rattle.station.specs.declared.held.Station.{Station}
-use Rattle.station.specs.Held.{globals_of, Holds}
+use Rattle.station.specs.Held.{globals_of}
 use Rattle.station.specs.Filled.{narrowed, entered, Filled}
 use Rattle.station.specs.Passed.{LoadedFrom}
 
@@ -50,6 +52,10 @@ fine t start e =
     let a = by_fault (fault t.functions t.lengths t.nodes) (answered (script_in t)) start e in
     let b = started (too_long (script_in t)) (code_limit - size (script_code (script_in t))) start a.1 in
     record { faultless = a.0; short = b.0; start_is = b.1 }
+
+-- they are within their limits
+pub within : (fs : List Function) (gs : List ℕ) (xs : List Node) (start : ℕ) → Ok start ≡ compiled fs gs xs → Limited fs gs xs
+within fs gs xs start e = (sound fs gs xs (fine (tables fs gs xs) start e).faultless).limited
 
 pub none-refused : (t : Tables) (start : ℕ) → Fine t start → load_refusal t ≡ None
 none-refused t start f =

@@ -1,10 +1,11 @@
 -- What a pass does is what the script means.
-use Rattle.std.proofs.Common.{◌≡◌, ℕ, ◌-◌, ◌≤◌, List, length, get_or, take, drop, ℤ, Some, None, Option, sym, refl, ap, ◌∙◌, subst, arith, length-append, length-drop, length-take}
+use Rattle.std.proofs.Common.{◌≡◌, ℕ, ◌≤◌, List, length, get_or, take, drop, ℤ, Some, None, Option, sym, refl, ap, ◌∙◌, subst, arith, length-append, length-drop, length-take}
 use Rattle.std.proofs.lemmas.List.{take_at, take-take, length-take-le}
+use Rattle.std.proofs.lemmas.Option.{none-some}
 use Rattle.answer.specs.Numbers.{ending_number}
 use Rattle.answer.specs.declared.Answer.{Answer}
 use Rattle.answer.specs.declared.Ending.{Ending}
-use Rattle.answer.specs.declared.Ending.TheVariants.{Finished, DivisorZero, IndexOutside, PageFull, NoTurnLeft, TooDeep, UnknownInstruction, OutsideCode, StackFull, TooFewWords, NoCaller, NegativeCount}
+use Rattle.answer.specs.declared.Ending.TheVariants.{Finished}
 use Rattle.answer.specs.declared.Refusal.{Refusal}
 use Rattle.board.specs.Meaning.{Means}
 use Rattle.effects.specs.Effects.{State as Machine}
@@ -33,7 +34,7 @@ use Rattle.station.specs.declared.held.Station.{Station}
 use Rattle.station.specs.Held.{globals_of, laid, Holds, Loaded, Agrees, NeverFull, Does}
 use Rattle.station.specs.Passed.{touched, start_of, Passed}
 use Rattle.station.proofs.Agreeing.{kept_loaded, due_agrees, does_by}
-use Rattle.station.proofs.Clear.{clash, Clear, no_refusal}
+use Rattle.station.proofs.Clear.{Clear, no_refusal}
 
 -- two outcomes of one run are one
 alike : (t : Setup) (s : Machine) (d e : Ending) (v u : Machine) → Ends t s d v → Ends t s e u → (d ≡ e) × (v ≡ u)
@@ -46,36 +47,16 @@ alike t s d e v u p q =
 -- the tables of an accepted load have no fault
 pub no_fault : (o p : Option Refusal) → or_else o p ≡ None → o ≡ None
 no_fault None p e = refl
-no_fault (Some why) p e = absurd (clash e)
+no_fault (Some why) p e = absurd (none-some _ (sym e))
 
 -- by an ending only what is written back counts
 kept_same : (e : Ending) (new new' old old' : List ℤ) → (e ≡ Finished → new ≡ new') → old ≡ old' → kept_by e new old ≡ kept_by e new' old'
 kept_same Finished new new' old old' f q = f refl
-kept_same DivisorZero new new' old old' f q = q
-kept_same IndexOutside new new' old old' f q = q
-kept_same PageFull new new' old old' f q = q
-kept_same NoTurnLeft new new' old old' f q = q
-kept_same TooDeep new new' old old' f q = q
-kept_same UnknownInstruction new new' old old' f q = q
-kept_same OutsideCode new new' old old' f q = q
-kept_same StackFull new new' old old' f q = q
-kept_same TooFewWords new new' old old' f q = q
-kept_same NoCaller new new' old old' f q = q
-kept_same NegativeCount new new' old old' f q = q
+kept_same _ new new' old old' f q = q
 
 kept_length : (e : Ending) (new old : List ℤ) → length new ≡ length old → length (kept_by e new old) ≡ length old
 kept_length Finished new old l = l
-kept_length DivisorZero new old l = refl
-kept_length IndexOutside new old l = refl
-kept_length PageFull new old l = refl
-kept_length NoTurnLeft new old l = refl
-kept_length TooDeep new old l = refl
-kept_length UnknownInstruction new old l = refl
-kept_length OutsideCode new old l = refl
-kept_length StackFull new old l = refl
-kept_length TooFewWords new old l = refl
-kept_length NoCaller new old l = refl
-kept_length NegativeCount new old l = refl
+kept_length _ new old l = refl
 
 -- what comes of the machine's run is the record of the script's run under the same allowance
 record Same (s : Station) (stack' : List ℤ) (board' : Means) (a : Answer) (r : Record) : Type 0 where
@@ -186,7 +167,7 @@ passed_does s s' p stack stack' board' a early stack_is long-is due gs_fit in_fi
         ∙ due
 
     go : (o : Option Script) → σ.script ≡ o → Loaded o s → Does σ (pass p) (Answered a) board'.readings s'
-    go None e h = absurd (clash (ap (λ (n : Option ℕ). pass_refusal n p.allowed (length stack) (length p.board.inputs)) (sym h.0) ∙ due))
+    go None e h = absurd (none-some _ (sym due ∙ ap (λ (n : Option ℕ). pass_refusal n p.allowed (length stack) (length p.board.inputs)) h.0))
     go (Some script) e h =
         let t = h.0 in
         let hold = h.2 in

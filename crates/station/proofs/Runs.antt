@@ -1,5 +1,6 @@
 -- The machine never refuses what a pass hands it.
-use Rattle.std.proofs.Common.{◌≡◌, ℕ, ◌≤◌, false, ltb, List, length, ℤ, None, Ok, Err, Option, Result, sym, ◌∙◌, subst, le-ltb, MatchResult}
+use Rattle.std.proofs.Common.{◌≡◌, ℕ, ◌≤◌, false, List, length, ℤ, None, Ok, Err, Option, Result, sym, ◌∙◌, subst, le-ltb, MatchResult}
+use Rattle.std.proofs.lemmas.Option.{none-some}
 use Rattle.answer.specs.declared.Answer.{Answer}
 use Rattle.answer.specs.declared.Refusal.{Refusal}
 use Rattle.board.specs.Meaning.{Means}
@@ -7,7 +8,6 @@ use Rattle.rules.specs.Limits.{code_limit, stack_limit}
 use Rattle.machine.specs.declared.Allowance.{Allowance}
 use Rattle.machine.specs.Execute.{refusal, starting, Ran, Executed}
 use Rattle.history.specs.Calls.{outside}
-use Rattle.station.proofs.Clear.{clash}
 
 nothing_due : (allowed : Allowance) (code stack used : ℕ) → outside allowed ≡ false → code ≤ code_limit → stack ≤ stack_limit → used ≤ stack → refusal allowed code stack used ≡ None
 nothing_due allowed code stack used a c s u =
@@ -18,7 +18,7 @@ nothing_due allowed code stack used a c s u =
 
 by_result : (due : Option Refusal) (r : Result Answer Refusal) (U : Type 0) (R : Answer → Type 0) → due ≡ None → Executed due r U R → MatchResult r R (λ _. ⊥)
 by_result due (Ok a) U R e x = x.1
-by_result due (Err why) U R e x = clash (sym x.0 ∙ e)
+by_result due (Err why) U R e x = none-some _ (sym e ∙ x.0)
 
 -- so the run that it was handed is made
 pub run_made : (allowed : Allowance) (code words front out : List ℤ) (used : ℕ) (board board' : Means) (r : Result Answer Refusal) (U : Type 0)

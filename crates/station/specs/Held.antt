@@ -58,6 +58,10 @@ pub record Does (σ : State) (c : Call) (said : Said) (readings : List ℤ) (aft
   pub agrees : Agrees (stepped σ c).state after
   pub room : NeverFull said
 
+-- whatever state of the definition the first station agrees with, the call did what the definition's step from there does
+abbrev pub Follows : Station → Call → Said → List ℤ → Station → Type 0
+Follows was c said readings is = (σ : State) → Agrees σ was → Does σ c said readings is
+
 -- all of a station but its globals is as it was
 pub record Kept (was is : Station) : Type 0 where
   pub code : is.code ≡ was.code

@@ -46,10 +46,13 @@ pub record Passed (s s' : Station) (allowed : Allowance) (stack stack' : List �
   pub kept : Kept s s'
   pub globals : globals_of s'.globals ≡ kept_by a.ending (take (length (globals_of s.globals)) stack') (globals_of s.globals)
 
--- what a call's result says
+-- what a call's result says, where an answer is in it
+abbrev pub said_by : {X : Type 0} → (X → Answer) → Result X Refusal → Said
+said_by answer (Ok x) = Answered (answer x)
+said_by answer (Err e) = Refused e
+
 abbrev pub said_of : Result Answer Refusal → Said
-said_of (Ok a) = Answered a
-said_of (Err e) = Refused e
+said_of = said_by (λ a. a)
 
 abbrev pub done_of : Result (Unit {0}) Refusal → Said
 done_of (Ok u) = Done

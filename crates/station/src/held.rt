@@ -2,14 +2,14 @@
 ghost use Rattle.std.specs.Prelude.{◌≡◌, [], drop};
 ghost use Rattle.history.specs.declared.Said.TheVariants.{Done};
 ghost use Rattle.history.specs.Calls.{clear as clear_call};
-ghost use Rattle.history.specs.History.{State, start as start_state};
-ghost use Rattle.station.specs.Held.{code_of, marks_of, Agrees, Does, Cleared};
+ghost use Rattle.history.specs.History.{start as start_state};
+ghost use Rattle.station.specs.Held.{code_of, marks_of, Agrees, Follows, Cleared};
 
 use crate::globals::Globals;
 use rules::CODE_LIMIT;
-use script::limits::MAX_WORDS;
 
 /// What is loaded: code with its marks, at the far end of tables of fixed length, and the script's globals.
+/// Words and marks are two tables, since the machine takes the words alone.
 #[derive(Drop)]
 pub struct Station {
     pub(crate) code: [i32; CODE_LIMIT],
@@ -22,12 +22,12 @@ pub struct Station {
     pub(crate) globals: Globals,
 }
 
-// what stands in a table from some place on
+// what stands in a table from some place on, nothing past its end: where the code starts is within its table, but that is proved of it
+// once, by what a station means, and not kept beside it
 fn far_end<T>(table: &[T], from: usize) -> &[T]
     ensures { result.now ≡ drop from table.now }
 {
-    let from = from.min(table.len());
-    &table[from..]
+    table.get(from..).unwrap_or(&[])
 }
 
 impl Station {
@@ -40,10 +40,7 @@ impl Station {
             marks: [0; CODE_LIMIT],
             start: CODE_LIMIT,
             inputs: None,
-            globals: Globals {
-                words: [0; MAX_WORDS],
-                used: 0,
-            },
+            globals: Globals::zeros(0),
         }
     }
 
@@ -69,9 +66,10 @@ impl Station {
     }
 
     /// Sets all globals to 0.
+    #[tactic(auto, using(crate::proofs::Agreeing::cleared_does))]
     pub fn clear(&mut self)
         ensures left { Cleared self.old self.new }
-        ensures does { (σ : State) → Agrees σ self.old → Does σ clear_call Done [] self.new }
+        ensures does { Follows self.old clear_call Done [] self.new }
     {
         self.globals.clear();
     }

@@ -1,7 +1,8 @@
-// What is known of lent memory once it has been read: that it holds words and bytes. The compiler of the program leaves nothing of these loops.
+// What is known of lent memory once it has been read: that it holds words. The compiler of the program leaves nothing of these loops.
+// Of bytes and other unsigned numbers a proof knows their range at once; of signed words, of a node's fields and of a board's inputs
+// it knows it only where the body reads them.
 ghost use Rattle.std.specs.Prelude.{◌≡◌, ◌<◌, length, pos, FitsSigned, slice_index_or};
 ghost use Rattle.std.specs.Int.{w32};
-ghost use Rattle.std.specs.Int.Digits.{AllBelowBase};
 ghost use Rattle.symbolic.specs.Proper.{Fit};
 ghost use Rattle.accepted.specs.Accepted.{ConstantsFit};
 
@@ -18,20 +19,12 @@ pub(crate) fn know_constants(nodes: &[Node])
 }
 
 /// Every element is a 32-bit word.
+#[tactic(auto, using(crate::proofs::Words::fit_each))]
 pub(crate) fn know_words(words: &[i32])
     ensures { Fit words.now }
 {
     for word in words {
         let _word = *word;
-    }
-}
-
-/// Every element is a byte.
-pub(crate) fn know_bytes(bytes: &[u8])
-    ensures { AllBelowBase 256 bytes.now }
-{
-    for byte in bytes {
-        let _byte = *byte;
     }
 }
 
@@ -43,7 +36,8 @@ fn know_input<B: Board>(board: &B, n: usize)
     }
 }
 
-/// Every input of a board is a 32-bit word.
+/// Every input of a board is a 32-bit word. It goes by numbers, since a board is asked by number.
+#[tactic(auto, using(crate::proofs::Words::fit_each))]
 pub(crate) fn know_inputs<B: Board>(board: &B)
     ensures { Fit (B.means board.now).inputs }
 {

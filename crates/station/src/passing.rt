@@ -7,8 +7,8 @@ ghost use Rattle.script.specs.Limits.{max_words};
 ghost use Rattle.machine.specs.Execute.{passes, starting, Ran, Executed};
 ghost use Rattle.agreement.specs.Agreement.{stack_words, marked as by_marks};
 ghost use Rattle.history.specs.Calls.{pass as pass_call, plain_pass, outside, pass_refusal};
-ghost use Rattle.history.specs.History.{State, kept_by};
-ghost use Rattle.station.specs.Held.{globals_of, laid, marks_of, Kept, Agrees, Does};
+ghost use Rattle.history.specs.History.{kept_by};
+ghost use Rattle.station.specs.Held.{globals_of, laid, marks_of, Kept, Follows};
 ghost use Rattle.station.specs.Passed.{Passed, said_of};
 
 use crate::globals::lay;
@@ -17,7 +17,6 @@ use crate::known::{know_inputs, know_words};
 use answer::{Answer, Ending, NO_PLACE, Reason, Refusal};
 use board::Board;
 use machine::{Allowance, execute};
-use rules::{DEPTH_LIMIT, TURNS_LIMIT};
 use script::limits::MAX_WORDS;
 
 /// The words of stack that a call takes at most.
@@ -31,6 +30,8 @@ fn stack_words(depth: u32) -> usize
 }
 
 // Runs code on a stack, with the globals at its front.
+// What `lent` and `beside` say is what a board says of each print. They stand in each function over a board, since they speak of its
+// type's own members: one relation would take those as arguments, and be no shorter.
 fn run<B: Board>(
     allowed: Allowance,
     code: &[i32],
@@ -54,22 +55,12 @@ fn run<B: Board>(
     execute(allowed, code, stack, globals.len(), board)
 }
 
-// the mark at an index, none past the end
-fn mark_or_none(marks: &[u16], at: usize) -> u16
-    ensures { result ≡ slice_index_or marks.now at no_place }
-{
-    if at < marks.len() {
-        marks[at]
-    } else {
-        NO_PLACE as u16
-    }
-}
-
-// the place of an answer: the mark of the position at which its run ended
+// the place of an answer: the mark of the position at which its run ended, none past the end
 fn mark_at(marks: &[u16], position: i32) -> i32
     ensures { result ≡ pos (slice_index_or marks.now (unsigned_abs position) no_place) }
 {
-    mark_or_none(marks, position.unsigned_abs() as usize) as i32
+    let mark = marks.get(position.unsigned_abs() as usize).copied();
+    i32::from(mark.unwrap_or(NO_PLACE as u16))
 }
 
 // an answer by positions, told by marks
@@ -87,16 +78,8 @@ impl Station {
     fn check(&self, allowed: Allowance, stack: usize, inputs: usize) -> Result<(), Refusal>
         ensures { result ≡ passes (pass_refusal self.now.inputs allowed stack inputs) }
     {
-        let Some(main) = self.inputs else {
-            return Err(Refusal::of(Reason::NothingLoaded));
-        };
-        if allowed.turns < 1
-            || allowed.turns > TURNS_LIMIT
-            || allowed.depth < 1
-            || allowed.depth > DEPTH_LIMIT
-        {
-            return Err(Refusal::of(Reason::Allowance));
-        }
+        let main = self.inputs.ok_or(Refusal::of(Reason::NothingLoaded))?;
+        allowed.check()?;
         if stack < stack_words(allowed.depth) {
             return Err(Refusal::of(Reason::StackLength));
         }
@@ -112,7 +95,7 @@ impl Station {
         ensures kept { Kept self.old self.new }
         ensures globals { globals_of self.new.globals ≡ kept_by ending (take (length (globals_of self.old.globals)) stack.now) (globals_of self.old.globals) }
     {
-        if let Ending::Finished = ending {
+        if ending == Ending::Finished {
             self.globals.keep(stack);
         }
     }
@@ -128,8 +111,7 @@ impl Station {
         ensures tells { Executed (pass_refusal self.old.inputs allowed (length stack.old) (length (B.means board.old).inputs)) result
             ((self.new ≡ self.old) × (stack.new ≡ stack.old) × (board.new ≡ board.old))
             (λ a. Passed self.old self.new allowed stack.old stack.new (B.means board.old) (B.means board.new) a) }
-        ensures does { (σ : State) → Agrees σ self.old →
-            Does σ (pass_call (plain_pass allowed (length stack.old) (B.means board.old))) (said_of result) (B.means board.new).readings self.new }
+        ensures does { Follows self.old (pass_call (plain_pass allowed (length stack.old) (B.means board.old))) (said_of result) (B.means board.new).readings self.new }
         ensures lent { B.lent board.new ≡ B.lent board.old }
         ensures beside { Framed (B.means board.old).readings (B.means board.new).readings (B.beside board.old) (B.beside board.new) }
     {
@@ -141,7 +123,7 @@ impl Station {
             allowed,
             self.code(),
             self.globals.as_slice(),
-            &mut stack[0..room],
+            &mut stack[..room],
             board,
         )?;
         self.write_back(ended.ending, stack);

@@ -1,10 +1,12 @@
 // Tests of the parts: the store at two kinds of entry, the table board, what execute leaves, and
-// lines of contact files.
+// lines of contact files, for a program without a station and for one with it.
 use answer::{Ending, Reason};
-use board::{Board, TableBoard};
-use contact_file::{Line, Trouble, read_line};
+use board::{Board, PageFull, TableBoard};
+use contact_file::{Fault, Line, Trouble, read_line};
 use machine::{Allowance, execute};
-use stack::Stack;
+use stack::{Full, Stack};
+use std::alloc::Global;
+use std::process::Abort;
 use std::test::Fail;
 
 #[derive(Clone, Copy, PartialEq, Eq, Debug)]
@@ -20,8 +22,8 @@ fn a_store_of_words_keeps_what_is_popped(rt: HostRuntime) {
         let mut store = Stack::over(&mut words);
         assert_eq!(rt; store.top(), None);
         assert_eq!(rt; store.pop(), None);
-        assert!(rt; store.push(7));
-        assert!(rt; store.push(8));
+        assert_eq!(rt; store.push(7), Ok(()));
+        assert_eq!(rt; store.push(8), Ok(()));
         assert_eq!(rt; store.pop(), Some(8));
         assert_eq!(rt; store.top(), Some(7));
         assert_eq!(rt; store.used, 1);
@@ -36,8 +38,8 @@ fn a_store_of_records_takes_no_more_than_it_has_room_for(rt: HostRuntime) {
     let second = Label { node: 5, out: 2 };
     let mut slots = [second];
     let mut store = Stack::over(&mut slots);
-    assert!(rt; store.push(first));
-    assert!(rt; !store.push(second));
+    assert_eq!(rt; store.push(first), Ok(()));
+    assert_eq!(rt; store.push(second), Err(Full));
     assert_eq!(rt; store.pop(), Some(first));
     assert_eq!(rt; store.pop(), None);
 }
@@ -50,9 +52,9 @@ fn a_table_board_fills_its_page(rt: HostRuntime) {
     assert_eq!(rt; board.count(), 2);
     assert_eq!(rt; board.input(1), Some(-6));
     assert_eq!(rt; board.input(2), None);
-    assert!(rt; board.print(10));
-    assert!(rt; board.print(11));
-    assert!(rt; !board.print(12));
+    assert_eq!(rt; board.print(10), Ok(()));
+    assert_eq!(rt; board.print(11), Ok(()));
+    assert_eq!(rt; board.print(12), Err(PageFull));
     assert_eq!(rt; board.readings().len(), 2);
     assert_eq!(rt; page, [10, 11]);
 }
@@ -151,7 +153,7 @@ fn a_refused_execute_changes_nothing(rt: HostRuntime) -> Result<(), Fail> {
         Ok(_) => return Err(Fail::new("not refused")),
         Err(refusal) => {
             assert_eq!(rt; refusal.reason, Reason::Sizes);
-            assert_eq!(rt; refusal.place, 65_535);
+            assert_eq!(rt; refusal.place_number(), 65_535);
         }
     }
     assert_eq!(rt; board.readings().len(), 0);
@@ -202,6 +204,16 @@ fn lines_are_read(rt: HostRuntime) -> Result<(), Fail> {
     Ok(())
 }
 
+fn refused(rt: &impl Abort, line: Result<Line, Fault>, trouble: Trouble) -> Result<(), Fail> {
+    match line {
+        Ok(_) => Err(Fail::new("read")),
+        Err(fault) => {
+            assert_eq!(rt; fault.trouble, trouble);
+            Ok(())
+        }
+    }
+}
+
 #[test]
 fn lines_that_cannot_be_read_are_refused(rt: HostRuntime) -> Result<(), Fail> {
     let cases = [
@@ -229,11 +241,124 @@ fn lines_that_cannot_be_read_are_refused(rt: HostRuntime) -> Result<(), Fail> {
         ("execute 1 1 10 1000001", Trouble::Size),
         ("execute 1 1 10 0 2147483648", Trouble::Number),
     ];
-    for (text, trouble) in cases.iter() {
-        match read_line(rt.alloc(), text) {
-            Ok(_) => return Err(Fail::new("read")),
-            Err(fault) => assert_eq!(rt; fault.trouble, *trouble),
-        }
+    for (text, trouble) in cases {
+        refused(&rt, read_line(rt.alloc(), text), trouble)?;
     }
     Ok(())
+}
+
+#[test]
+fn lines_for_a_station_are_read(rt: HostRuntime) -> Result<(), Fail> {
+    let heap = rt.alloc();
+    let Ok(Line::Pass(asked)) = contact_lines::read_line(heap, " pass 1000000 32 1984 9 5 -6")
+    else {
+        return Err(Fail::new("no pass"));
+    };
+    assert_eq!(rt; asked.allowed.turns, 1_000_000);
+    assert_eq!(rt; asked.allowed.depth, 32);
+    assert_eq!(rt; asked.stack, 1_984);
+    assert_eq!(rt; asked.page, 9);
+    assert_eq!(rt; asked.inputs.as_slice(), [5, -6].as_slice());
+    let text = "packet 7 1 124 1000000 2046 65535 0005C00600010fFa";
+    let Ok(Line::Packet(asked)) = contact_lines::read_line(heap, text) else {
+        return Err(Fail::new("no packet"));
+    };
+    assert_eq!(rt; asked.allowed.turns, 7);
+    assert_eq!(rt; asked.allowed.depth, 1);
+    assert_eq!(rt; asked.stack, 124);
+    assert_eq!(rt; asked.output, 1_000_000);
+    assert_eq!(rt; asked.apid, 2_046);
+    assert_eq!(rt; asked.count, 65_535);
+    assert_eq!(rt;
+        asked.input.as_slice(),
+        [0, 5, 192, 6, 0, 1, 15, 250].as_slice()
+    );
+    let Ok(Line::Packet(asked)) = contact_lines::read_line(heap, "packet 1 1 124 0 5 6 -") else {
+        return Err(Fail::new("no packet"));
+    };
+    assert_eq!(rt; asked.input.len(), 0);
+    assert!(rt; matches!(contact_lines::read_line(heap, "clear"), Ok(Line::Clear)));
+    // what needs no station is read as without one
+    assert!(rt; matches!(contact_lines::read_line(heap, "#clear"), Ok(Line::Comment)));
+    assert!(rt; matches!(contact_lines::read_line(heap, " "), Ok(Line::Blank)));
+    assert!(rt;
+        matches!(
+            contact_lines::read_line(heap, "global 64"),
+            Ok(Line::Global(64))
+        )
+    );
+    Ok(())
+}
+
+#[test]
+fn lines_for_a_station_that_cannot_be_read_are_refused(rt: HostRuntime) -> Result<(), Fail> {
+    let cases = [
+        ("pass", Trouble::Missing),
+        ("pass 1 1 124", Trouble::Missing),
+        ("pass 1 1 1000001 0", Trouble::Size),
+        ("pass 1 1 124 1000001", Trouble::Size),
+        ("pass 1 1 124 0 2147483648", Trouble::Number),
+        ("packet 1 1 124 38 5 6", Trouble::Missing),
+        ("packet 4294967296 1 124 38 5 6 -", Trouble::Number),
+        ("packet 1 1 1000001 38 5 6 -", Trouble::Size),
+        ("packet 1 1 124 1000001 5 6 -", Trouble::OutputSize),
+        ("packet 1 1 124 38 65536 6 -", Trouble::Number),
+        ("packet 1 1 124 38 5 65536 -", Trouble::Number),
+        ("packet 1 1 124 38 5 6 0", Trouble::Bytes),
+        ("packet 1 1 124 38 5 6 000", Trouble::Bytes),
+        ("packet 1 1 124 38 5 6 0g", Trouble::Bytes),
+        ("packet 1 1 124 38 5 6 +1", Trouble::Bytes),
+        ("packet 1 1 124 38 5 6 é", Trouble::Bytes),
+        ("packet 1 1 124 38 5 6 --", Trouble::Bytes),
+        ("packet 1 1 124 38 5 6 - -", Trouble::TooMany),
+        ("clear 1", Trouble::TooMany),
+        ("load 1", Trouble::TooMany),
+        ("clears", Trouble::UnknownWord),
+    ];
+    for (text, trouble) in cases {
+        refused(&rt, contact_lines::read_line(rt.alloc(), text), trouble)?;
+    }
+    Ok(())
+}
+
+fn says(
+    rt: &impl Abort,
+    heap: Global,
+    line: Result<Line, Fault>,
+    message: &str,
+) -> Result<(), Fail> {
+    let Err(fault) = line else {
+        return Err(Fail::new("read"));
+    };
+    let said = format!(in heap; "{fault}")?;
+    assert_eq!(rt; said.as_str(), message);
+    Ok(())
+}
+
+#[test]
+fn a_fault_says_what_is_wrong(rt: HostRuntime) -> Result<(), Fail> {
+    let heap = rt.alloc();
+    let cases = [
+        ("cod 1", "no line begins with 'cod'"),
+        ("execute 1", "a number is missing"),
+        ("global 256", "'256' is no number that fits here"),
+        (
+            "execute 1 1 1000001 0",
+            "'1000001' is more than 1000000 words",
+        ),
+        (
+            "packet 1 1 124 1000001 5 6 -",
+            "'1000001' is more than 1000000",
+        ),
+        (
+            "packet 1 1 124 38 5 6 0g",
+            "'0g' is no bytes in hexadecimal",
+        ),
+        ("load 1", "'1' is one word too many"),
+    ];
+    for (text, message) in cases {
+        says(&rt, heap, contact_lines::read_line(heap, text), message)?;
+    }
+    let message = "'clear' is for a station, which this program does not have yet";
+    says(&rt, heap, read_line(heap, "clear 1"), message)
 }

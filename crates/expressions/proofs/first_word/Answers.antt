@@ -1,15 +1,11 @@
-use Rattle.std.proofs.Common.{ℕ, ◌+◌, ◌<◌, length, arith, rules}
-use Rattle.std.proofs.lemmas.List.Sums.{sum_by_more, sum_by-take-le}
-use Rattle.expressions.proofs.Words.{first-sum}
+use Rattle.std.proofs.Common.{arith}
+use Rattle.std.proofs.lemmas.List.{length-take-le}
+use Rattle.script.proofs.SoundLaws.{script_sound}
+use Rattle.expressions.proofs.Words.{sum_before}
 use Rattle.expressions.proofs.first_word.Goals as goal
 
-pub loop-i-preserved : goal.loop-i-preserved
-loop-i-preserved c =
-    let gs = c.args.globals.now in
-    let h : c.loop-i.i < length gs = search rules in
-    let m = sum_by_more (λ (n : ℕ). n) gs c.loop-i.i 0 h in
-    let l = sum_by-take-le (λ (n : ℕ). n) gs (c.loop-i.i + 1) in
-    (omega (arith, m, l, c.loop-i.invariant.1, c.requires.words), omega (arith, m, c.loop-i.invariant.1))
+pub words_of-requires : goal.words_of-requires
+words_of-requires c = let l = (script_sound c.args.script).limited in omega (arith, l.globals, length-take-le c.args.g c.args.script.globals.now c.requires)
 
-pub returns : goal.returns
-returns c = search (rules, first-sum)
+pub returns-clause-few : goal.returns-clause-few
+returns-clause-few c = let l = (script_sound c.args.script).limited in omega (arith, l.words, sum_before c.args.script.globals.now c.args.g)

@@ -1,139 +1,98 @@
 use Rattle.std.proofs.Common.{◌≡◌, ℕ, ◌<◌, length, sym, refl, ap, ◌∙◌, arith, rules}
-use Rattle.std.proofs.lemmas.Bool.Decides.{nat_tests}
 use Rattle.script.specs.Kinds.{kind_at}
 use Rattle.script.specs.declared.kinds.Sort.TheVariants.{Expression, Arguments, Statement}
 use Rattle.meaning.specs.Tree
 use Rattle.meaning.specs.Tables.{args_at}
 use Rattle.reading.specs.Nodes.{whiles}
 use Rattle.reading.specs.Room.{stmt_room}
-use Rattle.reading.proofs.ReadLaws.{kid_a, kid_b, kid_c, function_in, call_in}
+use Rattle.reading.proofs.ReadLaws.{child_a, child_b, child_c, function_in, call_in}
 use Rattle.meaning.proofs.Decodes.{stmt_nothing, stmt_chain, stmt_discard, stmt_if, stmt_while, stmt_return, stmt_replace}
 use Rattle.reading.proofs.statement_at.Goals as goal
 
-pub returns-in-16 : goal.returns-in-16
-returns-in-16 c =
-    let xs = c.args.nodes.now in
-    let n = c.args.n in
-    let here = c.requires.within in
-    let ch = c.requires.sound.1.shaped.children in
-    let k : kind_at xs n ≡ 16 = c.in-16.is in
-    let ka = kid_a xs ch n here 16 k Statement c.field_a.result refl c.field_a.ensures in
-    let kb = kid_b xs ch n here 16 k Statement c.field_b.result refl c.field_b.ensures in
-    let e = stmt_chain xs n here _ _ k ka.0 kb.0 in
-    record { tree = e; room = ap stmt_room e; nest = ap whiles e; parts = (ka.1, kb.1) }
+pub returns-in-Ok-Nothing : goal.returns-in-Ok-Nothing
+returns-in-Ok-Nothing c =
+    let k : kind_at c.args.nodes.now c.args.n ≡ 15 = search rules in
+    let e = stmt_nothing _ c.args.n c.requires.within k in
+    record { tree = e; room = ap stmt_room e; nest = ap whiles e; parts = tt }
 
-pub returns-in-17 : goal.returns-in-17
-returns-in-17 c =
-    let xs = c.args.nodes.now in
-    let n = c.args.n in
-    let here = c.requires.within in
-    let ch = c.requires.sound.1.shaped.children in
-    let k : kind_at xs n ≡ 17 = c.in-17.is in
-    let ka = kid_a xs ch n here 17 k Expression c.field_a-in-17.result refl c.field_a-in-17.ensures in
-    let e = stmt_discard xs n here _ k ka.0 in
-    record { tree = e; room = ap stmt_room e; nest = ap whiles e; parts = ka.1 }
+pub returns-in-Ok-Sequence : goal.returns-in-Ok-Sequence
+returns-in-Ok-Sequence c =
+    let k : kind_at c.args.nodes.now c.args.n ≡ 16 = search rules in
+    let a = child_a _ _ _ c.requires.sound.1 c.args.n c.requires.within 16 k Statement _ refl c.numbers_in-a.ensures.a in
+    let b = child_b _ _ _ c.requires.sound.1 c.args.n c.requires.within 16 k Statement _ refl c.numbers_in-a.ensures.b in
+    let e = stmt_chain _ c.args.n c.requires.within _ _ k a.0 b.0 in
+    record { tree = e; room = ap stmt_room e; nest = ap whiles e; parts = (a.1, b.1) }
 
-pub returns-in-18 : goal.returns-in-18
-returns-in-18 c =
-    let xs = c.args.nodes.now in
-    let n = c.args.n in
-    let here = c.requires.within in
-    let ch = c.requires.sound.1.shaped.children in
-    let k : kind_at xs n ≡ 18 = c.in-18.is in
-    let ka = kid_a xs ch n here 18 k Expression c.field_a-in-18.result refl c.field_a-in-18.ensures in
-    let kb = kid_b xs ch n here 18 k Statement c.field_b-in-18.result refl c.field_b-in-18.ensures in
-    let kc = kid_c xs ch n here 18 k Statement c.field_c.result refl c.field_c.ensures in
-    let e = stmt_if xs n here _ _ _ k ka.0 kb.0 kc.0 in
-    record { tree = e; room = ap stmt_room e; nest = ap whiles e; parts = (ka.1, kb.1, kc.1) }
+pub returns-in-Ok-Evaluate : goal.returns-in-Ok-Evaluate
+returns-in-Ok-Evaluate c =
+    let k : kind_at c.args.nodes.now c.args.n ≡ 17 = search rules in
+    let a = child_a _ _ _ c.requires.sound.1 c.args.n c.requires.within 17 k Expression _ refl c.numbers_in-a.ensures.a in
+    let e = stmt_discard _ c.args.n c.requires.within _ k a.0 in
+    record { tree = e; room = ap stmt_room e; nest = ap whiles e; parts = a.1 }
 
-pub returns-in-19 : goal.returns-in-19
-returns-in-19 c =
-    let xs = c.args.nodes.now in
-    let n = c.args.n in
-    let here = c.requires.within in
-    let ch = c.requires.sound.1.shaped.children in
-    let k : kind_at xs n ≡ 19 = c.in-19.is in
-    let ka = kid_a xs ch n here 19 k Expression c.field_a-in-19.result refl c.field_a-in-19.ensures in
-    let kb = kid_b xs ch n here 19 k Statement c.field_b-in-19.result refl c.field_b-in-19.ensures in
-    let e = stmt_while xs n here _ _ k ka.0 kb.0 in
-    record { tree = e; room = ap stmt_room e; nest = ap whiles e; parts = (ka.1, kb.1) }
+pub returns-in-Ok-If : goal.returns-in-Ok-If
+returns-in-Ok-If c =
+    let k : kind_at c.args.nodes.now c.args.n ≡ 18 = search rules in
+    let a = child_a _ _ _ c.requires.sound.1 c.args.n c.requires.within 18 k Expression _ refl c.numbers_in-a.ensures.a in
+    let b = child_b _ _ _ c.requires.sound.1 c.args.n c.requires.within 18 k Statement _ refl c.numbers_in-a.ensures.b in
+    let d = child_c _ _ _ c.requires.sound.1 c.args.n c.requires.within 18 k Statement _ refl c.numbers_in-a.ensures.c in
+    let e = stmt_if _ c.args.n c.requires.within _ _ _ k a.0 b.0 d.0 in
+    record { tree = e; room = ap stmt_room e; nest = ap whiles e; parts = (a.1, b.1, d.1) }
+
+pub returns-in-Ok-While : goal.returns-in-Ok-While
+returns-in-Ok-While c =
+    let k : kind_at c.args.nodes.now c.args.n ≡ 19 = search rules in
+    let a = child_a _ _ _ c.requires.sound.1 c.args.n c.requires.within 19 k Expression _ refl c.numbers_in-a.ensures.a in
+    let b = child_b _ _ _ c.requires.sound.1 c.args.n c.requires.within 19 k Statement _ refl c.numbers_in-a.ensures.b in
+    let e = stmt_while _ c.args.n c.requires.within _ _ k a.0 b.0 in
+    record { tree = e; room = ap stmt_room e; nest = ap whiles e; parts = (a.1, b.1) }
 
 pub offset_bounds-nodes-a : goal.offset_bounds-nodes-a
 offset_bounds-nodes-a c =
-    let xs = c.args.nodes.now in
-    let n = c.args.n in
-    let here = c.requires.within in
-    let ch = c.requires.sound.1.shaped.children in
-    let ka = kid_a xs ch n here 20 c.in-20.is Expression c.field_a-a.result refl c.field_a-a.ensures in
-    let a : c.field_a-a.result < length xs = omega (arith, ka.1.0) in
+    let k : kind_at c.args.nodes.now c.args.n ≡ 20 = search rules in
+    let a = child_a _ _ _ c.requires.sound.1 c.args.n c.requires.within 20 k Expression _ refl c.numbers_in-a.ensures.a in
+    let h : c.numbers_in-a.result.0 < length c.args.nodes.now = omega (arith, a.0.1, c.requires.within) in
     search rules
 
 pub bounds-nodes-a : goal.bounds-nodes-a
 bounds-nodes-a c =
-    let xs = c.args.nodes.now in
-    let n = c.args.n in
-    let here = c.requires.within in
-    let ch = c.requires.sound.1.shaped.children in
-    let ka = kid_a xs ch n here 20 c.in-20.is Expression c.field_a-a.result refl c.field_a-a.ensures in
-    let a : c.field_a-a.result < length xs = omega (arith, ka.1.0) in
-    search rules
+    let k : kind_at c.args.nodes.now c.args.n ≡ 20 = search rules in
+    let a = child_a _ _ _ c.requires.sound.1 c.args.n c.requires.within 20 k Expression _ refl c.numbers_in-a.ensures.a in
+    omega (arith, a.0.1, c.requires.within)
 
 pub offset_bounds-functions-f : goal.offset_bounds-functions-f
 offset_bounds-functions-f c =
-    let xs = c.args.nodes.now in
-    let n = c.args.n in
-    let here = c.requires.within in
-    let ch = c.requires.sound.1.shaped.children in
-    let ka = kid_a xs ch n here 20 c.in-20.is Expression c.field_a-a.result refl c.field_a-a.ensures in
-    let a : c.field_a-a.result < length xs = omega (arith, ka.1.0) in
-    let k : kind_at xs c.field_a-a.result ≡ 12 = search rules in
-    let f = function_in c.args.functions.now c.requires.sound.0 xs c.requires.sound.1 c.field_a-a.result a k _ c.field_a-f.ensures in
+    let k : kind_at c.args.nodes.now c.args.n ≡ 20 = search rules in
+    let a = child_a _ _ _ c.requires.sound.1 c.args.n c.requires.within 20 k Expression _ refl c.numbers_in-a.ensures.a in
+    let h : c.numbers_in-a.result.0 < length c.args.nodes.now = omega (arith, a.0.1, c.requires.within) in
+    let l : kind_at c.args.nodes.now c.numbers_in-a.result.0 ≡ 12 = search rules in
+    let f = function_in _ _ _ c.requires.sound.1 c.numbers_in-a.result.0 h l _ c.numbers_in-f.ensures.a in
     search rules
 
 pub bounds-functions-f : goal.bounds-functions-f
 bounds-functions-f c =
-    let xs = c.args.nodes.now in
-    let n = c.args.n in
-    let here = c.requires.within in
-    let ch = c.requires.sound.1.shaped.children in
-    let ka = kid_a xs ch n here 20 c.in-20.is Expression c.field_a-a.result refl c.field_a-a.ensures in
-    let a : c.field_a-a.result < length xs = omega (arith, ka.1.0) in
-    let k : kind_at xs c.field_a-a.result ≡ 12 = search rules in
-    let f = function_in c.args.functions.now c.requires.sound.0 xs c.requires.sound.1 c.field_a-a.result a k _ c.field_a-f.ensures in
-    search rules
+    let k : kind_at c.args.nodes.now c.args.n ≡ 20 = search rules in
+    let a = child_a _ _ _ c.requires.sound.1 c.args.n c.requires.within 20 k Expression _ refl c.numbers_in-a.ensures.a in
+    let h : c.numbers_in-a.result.0 < length c.args.nodes.now = omega (arith, a.0.1, c.requires.within) in
+    let l : kind_at c.args.nodes.now c.numbers_in-a.result.0 ≡ 12 = search rules in
+    function_in _ _ _ c.requires.sound.1 c.numbers_in-a.result.0 h l _ c.numbers_in-f.ensures.a
 
-pub returns-then-value-eq-CALL : goal.returns-then-value-eq-CALL
-returns-then-value-eq-CALL c =
-    let xs = c.args.nodes.now in
-    let n = c.args.n in
-    let here = c.requires.within in
-    let ch = c.requires.sound.1.shaped.children in
-    let ka = kid_a xs ch n here 20 c.in-20.is Expression c.field_a-a.result refl c.field_a-a.ensures in
-    let a : c.field_a-a.result < length xs = omega (arith, ka.1.0) in
-    let k : kind_at xs c.field_a-a.result ≡ 12 = search rules in
-    let p = call_in c.args.functions.now c.requires.sound.0 xs c.requires.sound.1 c.field_a-a.result a k _ _ c.field_a-f.ensures c.field_b-then-value-eq-CALL.ensures in
-    let kb = kid_b xs ch c.field_a-a.result a 12 k Arguments c.field_b-then-value-eq-CALL.result refl c.field_b-then-value-eq-CALL.ensures in
-    let e = stmt_replace xs n here c.field_a-a.result c.in-20.is ka.0 _ k kb.0 ∙ ap (λ (f : ℕ). Tree.replace n c.field_a-a.result f (args_at xs c.field_b-then-value-eq-CALL.result)) (sym c.field_a-f.ensures) in
-    record { tree = e; room = ap stmt_room e; nest = ap whiles e; parts = (ka.1, (p.0, p.1, (omega (arith, ka.1.0, p.2.0), p.2.1))) }
+pub returns-in-Ok-Return : goal.returns-in-Ok-Return
+returns-in-Ok-Return c =
+    let k : kind_at c.args.nodes.now c.args.n ≡ 20 = search rules in
+    let a = child_a _ _ _ c.requires.sound.1 c.args.n c.requires.within 20 k Expression _ refl c.numbers_in-a.ensures.a in
+    let h : c.numbers_in-a.result.0 < length c.args.nodes.now = omega (arith, a.0.1, c.requires.within) in
+    let l : kind_at c.args.nodes.now c.numbers_in-a.result.0 ≡ 12 = search rules in
+    let p = call_in _ _ _ c.requires.sound.1 c.numbers_in-a.result.0 h l _ _ c.numbers_in-f.ensures.a c.numbers_in-f.ensures.b in
+    let b = child_b _ _ _ c.requires.sound.1 c.numbers_in-a.result.0 h 12 l Arguments _ refl c.numbers_in-f.ensures.b in
+    let e = stmt_replace _ c.args.n c.requires.within _ k a.0 _ l b.0 ∙ ap (λ (f : ℕ). Tree.replace c.args.n c.numbers_in-a.result.0 f (args_at c.args.nodes.now c.numbers_in-f.result.1)) (sym c.numbers_in-f.ensures.a) in
+    record { tree = e; room = ap stmt_room e; nest = ap whiles e; parts = (a.1, (p.0, p.1, (omega (arith, a.1.0, p.2.0), p.2.1))) }
 
-pub returns-else-value-eq-CALL : goal.returns-else-value-eq-CALL
-returns-else-value-eq-CALL c =
-    let xs = c.args.nodes.now in
-    let n = c.args.n in
-    let here = c.requires.within in
-    let ch = c.requires.sound.1.shaped.children in
-    let ka = kid_a xs ch n here 20 c.in-20.is Expression c.field_a-a.result refl c.field_a-a.ensures in
-    let a : c.field_a-a.result < length xs = omega (arith, ka.1.0) in
-    let k : (kind_at xs c.field_a-a.result ≡ 12 → ⊥) = search rules in
-    let e = stmt_return xs n here c.field_a-a.result c.in-20.is ka.0 k in
-    record { tree = e; room = ap stmt_room e; nest = ap whiles e; parts = ka.1 }
-
-pub returns-in_default : goal.returns-in_default
-returns-in_default c =
-    let xs = c.args.nodes.now in
-    let n = c.args.n in
-    let here = c.requires.within in
-    let ch = c.requires.sound.1.shaped.children in
-    let k : kind_at xs n ≡ 15 = search (rules, nat_tests) in
-    let e = stmt_nothing xs n here k in
-    record { tree = e; room = ap stmt_room e; nest = ap whiles e; parts = tt }
+pub returns-in-Ok-Return-2 : goal.returns-in-Ok-Return-2
+returns-in-Ok-Return-2 c =
+    let k : kind_at c.args.nodes.now c.args.n ≡ 20 = search rules in
+    let a = child_a _ _ _ c.requires.sound.1 c.args.n c.requires.within 20 k Expression _ refl c.numbers_in-a.ensures.a in
+    let h : c.numbers_in-a.result.0 < length c.args.nodes.now = omega (arith, a.0.1, c.requires.within) in
+    let l : (kind_at c.args.nodes.now c.numbers_in-a.result.0 ≡ 12 → ⊥) = search rules in
+    let e = stmt_return _ c.args.n c.requires.within _ k a.0 l in
+    record { tree = e; room = ap stmt_room e; nest = ap whiles e; parts = a.1 }

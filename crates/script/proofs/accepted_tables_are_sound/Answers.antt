@@ -1,5 +1,6 @@
+use Rattle.script.proofs.AcceptLaws.{accepted}
 use Rattle.script.proofs.SoundLaws.{sound}
 use Rattle.script.proofs.accepted_tables_are_sound.Goals as goal
 
 pub returns : goal.returns
-returns c = sound
+returns c = record { sound = sound; accepted = accepted }

@@ -1,23 +1,17 @@
-use Rattle.std.proofs.Common.{◌≡◌, ◌+◌, ◌-◌, length, drop, length-drop, rules}
-use Rattle.meaning.specs.Tables.{stmt_at}
-use Rattle.writer.proofs.FunctionLaws.{function_turns, function_learns, function_enters}
+use Rattle.std.proofs.Common.{◌≡◌, ◌∷◌, length, ap, ◌∙◌, arith, rules}
+use Rattle.scheme.specs.Code as S
+use Rattle.scheme.specs.Scheme.{body_code}
+use Rattle.script.specs.Scope.{function_at}
+use Rattle.meaning.specs.Tables.{parts, function_of}
+use Rattle.draft.specs.Draft.{draft}
+use Rattle.draft.proofs.DraftLaws.{length-draft}
+use Rattle.phrases.proofs.Steps.{drafting}
+use Rattle.writer.proofs.FunctionLaws.{found, ends}
 use Rattle.writer.proofs.put_function.Goals as goal
 
-pub returns : goal.returns
-returns c =
-    let ls = c.args.globals.now in
+pub returns-clause-entries : goal.returns-clause-entries
+returns-clause-entries c = λ C h k.
     let n = c.args.number in
-    let total = c.args.function.parameters + c.args.function.locals in
-    let locals = c.args.function.locals in
-    let body = stmt_at c.args.nodes.now c.args.function.body in
-    let l : length c.flag_at.new.cells - c.put_zeros-s.result ≡ length (drop c.put_zeros-s.result c.put_zeros-s.new.cells) = search (rules, length-drop) in
-    record {
-      code = function_turns ls n total locals body _ _ _ _ _ _ c.put_return-p.ensures.code c.put_constant-q.ensures.code c.put_statement-r.ensures.code c.put_zeros-s.ensures.code c.flag_at.ensures;
-      within = search rules;
-      room = search rules;
-      used = c.put_statement-r.ensures.used;
-      long = c.put_statement-r.ensures.long;
-      lender = c.put_statement-r.ensures.lender;
-      starts = function_learns ls n total locals body _ _ _ _ _ c.put_return-p.ensures.code c.put_constant-q.ensures.code c.put_statement-r.ensures.starts;
-      entries = function_enters ls n total locals body _ _ _ _ _ _ _ c.put_return-p.ensures.code c.put_constant-q.ensures.code c.put_statement-r.ensures.code c.put_zeros-s.ensures.code c.requires.entries l;
-    }
+    let B : S.Code = body_code c.args.script.globals.now (function_of (parts c.args.script.nodes.now) (function_at c.args.script.functions.now n)) C in
+    let l : c.flag.new.self.code ≡ draft (S.entry n ∷ B) = grind (arith, drafting) in
+    found c.args.entries.now n c.len.result B (search rules) (c.len.ensures ∙ ap length l ∙ length-draft (S.entry n ∷ B)) (λ f. grind (arith, ends))

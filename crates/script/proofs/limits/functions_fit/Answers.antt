@@ -1,12 +1,13 @@
-use Rattle.std.proofs.Common.{rules}
-use Rattle.script.proofs.EveryLaws.{every_no, every_yes, every_end}
+use Rattle.std.proofs.Common.{◌∙◌, rules}
+use borrow.Author.Tests.{tests}
+use Rattle.std.proofs.lemmas.Iterator.{YieldsList-from_slice}
+use Rattle.std.proofs.lemmas.Iterator.Search.{all_from_yields_List}
+use Rattle.script.specs.Limits.{function_fits}
+use Rattle.script.proofs.EveryLaws.{list_all_is_every}
 use Rattle.script.proofs.limits.functions_fit.Goals as goal
 
-pub returns-then-not-function_fits : goal.returns-then-not-function_fits
-returns-then-not-function_fits c = search (rules, every_no)
-
-pub loop-function-preserved : goal.loop-function-preserved
-loop-function-preserved c = search (rules, every_yes)
-
 pub returns : goal.returns
-returns c = search (rules, every_end)
+returns c =
+    let fits = function_fits c.args.nodes in
+    let all = all_from_yields_List fits _ _ _ c.all.ensures.ran (YieldsList-from_slice c.args.functions.now cc) (λ x b q k. search (rules, tests)) in
+    all ∙ list_all_is_every fits c.args.functions.now

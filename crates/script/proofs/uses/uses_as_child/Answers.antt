@@ -1,10 +1,9 @@
-use Rattle.std.proofs.Common.{rules}
-use Rattle.std.proofs.lemmas.List.Sums.{sum_by_more}
-use Rattle.std.proofs.lemmas.List.{take_all}
+use Rattle.std.proofs.Common.{◌≡◌, arith, rules}
+use Rattle.script.specs.Uses.{uses_as_child}
+use Rattle.script.proofs.UsesLaws.{uses_as_child_few}
 use Rattle.script.proofs.uses.uses_as_child.Goals as goal
 
-pub loop-node-preserved : goal.loop-node-preserved
-loop-node-preserved c = search (rules, sum_by_more)
-
-pub returns : goal.returns
-returns c = search (rules, take_all)
+pub returns-clause-few : goal.returns-clause-few
+returns-clause-few c =
+    let v : c.sum.result ≡ uses_as_child c.args.nodes.now c.args.n = search rules in
+    omega (arith, v, uses_as_child_few c.args.nodes.now c.args.n, c.requires)

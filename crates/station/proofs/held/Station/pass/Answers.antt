@@ -1,14 +1,11 @@
-use Rattle.std.proofs.Common.{◌≡◌, ℕ, ◌-◌, List, ◌++◌, length, take, drop, ℤ, Err, sym, refl, ap, ◌∙◌, subst, arith, length-append, length-drop, rules}
+use Rattle.std.proofs.Common.{◌≡◌, ℕ, List, ◌++◌, length, drop, ℤ, sym, refl, ap, ◌∙◌, subst, arith, length-append, length-drop, rules}
 use Rattle.std.proofs.lemmas.List.{length-take-le}
 use Rattle.std.proofs.lemmas.Result.{err_from_is_err_and}
 use Rattle.board.proofs.Frames.{framed-none}
-use Rattle.agreement.specs.Agreement.{stack_words}
 use Rattle.symbolic.specs.Proper.{Fit}
-use Rattle.history.specs.declared.Said.{Said}
-use Rattle.history.specs.Calls.{plain_pass, pass as pass_call, pass_refusal}
-use Rattle.station.specs.Held.{Does}
+use Rattle.history.specs.Calls.{plain_pass, pass_refusal}
 use Rattle.station.proofs.Agreeing.{declined_does}
-use Rattle.station.proofs.Assembled.{due_of, none_due, tells_refused, says_refused, assembled}
+use Rattle.station.proofs.Assembled.{due_of, none_due, assembled}
 use Rattle.station.proofs.Clear.{asked}
 use Rattle.station.proofs.PassMeaning.{passed_does}
 use Rattle.station.proofs.held.Station.pass.Goals as goal
@@ -18,19 +15,15 @@ returns-in_err-check g c =
     let s = c.args.self.now in
     let m = g.B.Board.means c.args.board.now in
     let p = err_from_is_err_and c.from_residual.result c.from_residual.ensures.1 in
-    let e = p.1 ∙ ap Err p.2 in
     let due =
     ap (λ (n : ℕ). pass_refusal s.inputs c.args.allowed (length c.args.stack.now) n) (sym c.count.ensures)
     ∙ due_of _ c.in_err-check.field-0.0 c.in_err-check.ensures in
-    record {
-      tells = tells_refused c.from_residual.result _ c.in_err-check.field-0.0 _ _ e due (refl, refl, refl);
-      does = λ σ a.
-          subst (λ (x : Said). Does σ (pass_call (plain_pass c.args.allowed (length c.args.stack.now) m)) x m.readings s)
-          (says_refused c.from_residual.result c.in_err-check.field-0.0 e)
-          (declined_does s (plain_pass c.args.allowed (length c.args.stack.now) m) c.in_err-check.field-0.0 due σ a);
+    rw (p.1, p.2) (record {
+      tells = (due, (refl, refl, refl));
+      does = declined_does s (plain_pass c.args.allowed (length c.args.stack.now) m) c.in_err-check.field-0.0 due;
       lent = refl;
       beside = framed-none _ _;
-    }
+    })
 
 pub run-requires : goal.run-requires
 run-requires g c =
@@ -41,7 +34,7 @@ run-requires g c =
       allowed = clear.0;
       code = let l = ap length c.code.ensures in let d = length-drop s.start s.code in omega arith;
       globals = c.as_slice-2.ensures.few;
-      stack = length-take-le (c.stack_words-room.result - 0) c.args.stack.now (let k = clear.1 in omega arith) ∙ (let q : c.stack_words-room.result - 0 ≡ stack_words c.args.allowed.depth = omega arith in q);
+      stack = length-take-le c.stack_words-room.result c.args.stack.now (let k = clear.1 in omega arith) ∙ room;
     }
 
 pub write_back-requires : goal.write_back-requires
@@ -49,8 +42,8 @@ write_back-requires g c =
     let few = c.as_slice-2.ensures.few in
     let same = ap length c.as_slice-2.ensures.words in
     let room = c.stack_words-room.ensures in
-    let long : length c.run.new.stack ≡ c.stack_words-room.result - 0 = search rules in
-    let all = length-append c.run.new.stack (drop (c.stack_words-room.result - 0) c.args.stack.now) in
+    let long : length c.run.new.stack ≡ c.stack_words-room.result = search rules in
+    let all = length-append c.run.new.stack (drop c.stack_words-room.result c.args.stack.now) in
     omega arith
 
 pub returns : goal.returns
@@ -58,7 +51,7 @@ returns g c =
     let s = c.args.self.now in
     let s' = c.write_back.new.self in
     let stack = c.args.stack.now in
-    let k = c.stack_words-room.result - 0 in
+    let k = c.stack_words-room.result in
     let m = g.B.Board.means c.args.board.now in
     let m' = g.B.Board.means c.run.new.board in
     let room = c.stack_words-room.ensures in

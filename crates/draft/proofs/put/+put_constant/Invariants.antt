@@ -1,5 +1,0 @@
-use Rattle.std.proofs.Common.{◌-◌, length}
-use Rattle.draft.proofs.put.+put_constant.Given as goal
-
-abbrev pub decreases-put_constant : goal.decreases-put_constant
-decreases-put_constant l = length l.cells.now - l.at

@@ -1,5 +1,0 @@
-use Rattle.std.proofs.Common.{take_all, rules}
-use Rattle.sheet.proofs.Sheet.readings.Goals as goal
-
-pub returns-else-self-page : goal.returns-else-self-page
-returns-else-self-page c = search (rules, take_all)

@@ -1,6 +1,0 @@
-use Rattle.std.proofs.Common.{◌<◌, arith}
-use Rattle.std.proofs.ByRecursion.{All-from_get_or}
-use Rattle.station.proofs.known.know_bytes.Goals as goal
-
-pub returns : goal.returns
-returns c = All-from_get_or (λ b. b < 256) c.args.bytes.now 0 (λ k h. c.loop-byte.invariant k (omega arith))
