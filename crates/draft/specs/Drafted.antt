@@ -1,11 +1,15 @@
--- What a draft is: the cells of the code so far, and how many more there is room for.
-use Rattle.std.specs.Prelude.{ℕ, List}
+-- What a draft is: the cells of the code so far, how many more there is room for, and the table that both lie in.
+use Rattle.std.specs.Prelude.{◌≡◌, ℕ, List, length, drop}
+use Rattle.draft.specs.declared.Draft.{Draft}
 use Rattle.draft.specs.declared.cells.Cell.{Cell}
 
-pub record Drafted : Type 0 where
-  pub code : List Cell
-  pub room : ℕ
+unfoldable pub code_of : Draft → List Cell
+code_of d = drop d.front d.cells.now
 
--- how many positions code can have: each is a word that is not negative
-abbrev pub positions : ℕ
-positions = 2147483647
+abbrev pub room_of : Draft → ℕ
+room_of d = d.front
+
+-- one table, as long as it was: who lent it has in it what the draft has
+pub record IsSameTable (was is : Draft) : Type 0 where
+  pub lender : is.cells.ghost_name ≡ was.cells.ghost_name
+  pub long : length is.cells.now ≡ length was.cells.now

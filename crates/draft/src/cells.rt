@@ -1,7 +1,7 @@
 // The cells of a draft, one for each word of code that is being written, and what they begin with.
-ghost use Rattle.std.specs.Prelude.{◌≡◌, ◌≤◌, length, slice_index_or};
+ghost use Rattle.std.specs.Prelude.{◌≡◌, ◌≤◌, length, drop, slice_index_or};
 ghost use Rattle.std.specs.List.{prefix_len};
-ghost use Rattle.draft.specs.Cells.{no_cell, flagged, unlabelled, head_of_word, return_of_word};
+ghost use Rattle.draft.specs.Cells.{no_cell, flagged, unlabelled, head_of_word, head_of, return_of_word, return_of, dead_cells};
 ghost use Rattle.draft.specs.Operations.{opposite, conditional};
 
 use rules::Instruction;
@@ -84,7 +84,7 @@ pub enum Head {
 }
 
 // What code begins with, given its first word with its mark, and its second word.
-pub(crate) fn head_of_word(word: Word, mark: usize, next: Word) -> Head
+fn head_of_word(word: Word, mark: usize, next: Word) -> Head
     ensures { result ≡ head_of_word word mark next }
 {
     match (word, next) {
@@ -105,7 +105,7 @@ pub(crate) fn head_of_word(word: Word, mark: usize, next: Word) -> Head
 }
 
 // The operand of RET, if these are its two words.
-pub(crate) fn return_of_word(word: Word, next: Word) -> Option<u16>
+fn return_of_word(word: Word, next: Word) -> Option<u16>
     ensures { result ≡ return_of_word word next }
 {
     match (word, next) {
@@ -122,25 +122,52 @@ const END: Cell = Cell {
 };
 
 // The cell at a place of code.
-pub(crate) fn cell_at(code: &[Cell], at: usize) -> Cell
+fn cell_at(code: &[Cell], at: usize) -> Cell
     ensures { result ≡ slice_index_or code.now at no_cell }
 {
     code.get(at).copied().unwrap_or(END)
 }
 
-// Sets a label before code.
-pub(crate) fn flag_first(code: &mut [Cell])
+/// What code begins with.
+pub fn head_in(code: &[Cell]) -> Head
+    ensures { result ≡ head_of code.now }
+{
+    let first = cell_at(code, 0);
+    if first.label {
+        return Head::Other;
+    }
+    head_of_word(first.word, first.mark, cell_at(code, 1).word)
+}
+
+/// The operand of RET, labelled or not, if code begins with one.
+pub fn return_in(code: &[Cell]) -> Option<u16>
+    ensures { result ≡ return_of code.now }
+{
+    return_of_word(cell_at(code, 0).word, cell_at(code, 1).word)
+}
+
+// How many cells stand before the first label.
+fn unlabelled_in(code: &[Cell]) -> usize
+    ensures count { result ≡ prefix_len unlabelled code.now }
+    ensures within { result ≤ length code.now }
+{
+    code.iter().take_while(|cell| !cell.label).count()
+}
+
+/// How many cells nothing reaches: those before the first label.
+#[tactic(auto, using(crate::proofs::Steps::prefix_dead))]
+pub fn dead_in(code: &[Cell]) -> usize
+    ensures code { drop result code.now ≡ dead_cells code.now }
+    ensures within { result ≤ length code.now }
+{
+    unlabelled_in(code)
+}
+
+/// Sets a label before code.
+pub fn flag_first(code: &mut [Cell])
     ensures { code.new ≡ flagged code.old }
 {
     if let Some(first) = code.first_mut() {
         first.label = true;
     }
-}
-
-// How many cells stand before the first label.
-pub(crate) fn dead_in(code: &[Cell]) -> usize
-    ensures count { result ≡ prefix_len unlabelled code.now }
-    ensures within { result ≤ length code.now }
-{
-    code.iter().take_while(|cell| !cell.label).count()
 }

@@ -2,18 +2,13 @@
 // that put an instruction in front of what is written. Each does to the cells what the scheme does to symbolic code.
 #![tactic(auto)]
 
-ghost use Rattle.std.specs.Prelude.{◌≡◌, ◌+◌, ◌^◌, ◌<◌, ◌≤◌, ◌∷◌, [], length, drop, min};
+ghost use Rattle.std.specs.Prelude.{◌≡◌, ◌+◌, ◌<◌, ◌≤◌, ◌∷◌, [], length, drop};
 ghost use Rattle.draft.specs.Cells.{cell, flagged, head_of, return_of, dead_cells};
-ghost use Rattle.draft.specs.Drafted.{positions};
 
 pub mod cells;
 pub mod put;
 
-use cells::{Cell, Head, Word, cell_at, dead_in, flag_first, head_of_word, return_of_word};
-use std::marker::Model;
-
-// How many positions code can have: each is a word that is not negative.
-const POSITIONS: usize = i32::MAX as usize;
+use cells::{Cell, Head, Word, dead_in, flag_first, head_in, return_in};
 
 /// Code that is being written, from its last word to its first, at the far end of a lent table. What stands in the table before the code is
 /// of no meaning.
@@ -21,118 +16,125 @@ const POSITIONS: usize = i32::MAX as usize;
 pub struct Draft<'a> {
     cells: &'a mut [Cell],
     front: usize,
+    ghost within: { front ≤ length cells.now },
 }
 
-// To contracts a draft is the cells of the code so far, and how many more there is room for.
-impl<'a> Model for Draft<'a> {
-    ghost use Rattle.std.specs.Prelude.{◌^◌, ◌<◌, ◌≤◌, length, drop};
-    ghost use Rattle.draft.specs.Drafted.{Drafted};
-
-    ghost Value = { Drafted };
-
-    ghost view = { λ d. record { code = drop d.front d.cells.now; room = d.front } };
-
-    ghost invariant = { λ d. (d.front ≤ length d.cells.now) × (length d.cells.now < 2 ^ 31) };
-}
-
+// To contracts a draft is the cells of the code so far (`code_of`), and how many more there is room for (`room_of`). All that changes one
+// keeps its table (`IsSameTable`), so that who lent that knows afterwards what it holds.
 impl<'a> Draft<'a> {
-    /// No code yet, with room for as many words as there are cells, or as there are positions.
+    ghost use Rattle.draft.specs.Drafted.{code_of, room_of, IsSameTable};
+
+    /// No code yet, with room for as many words as there are cells.
     pub fn over(cells: &'a mut [Cell]) -> Draft<'a>
-        ensures code { result.code ≡ [] }
-        ensures room { result.room ≡ min (length cells.old) positions }
+        ensures code { code_of result ≡ [] }
+        ensures room { room_of result ≡ length cells.old }
+        ensures lender { result.cells.ghost_name ≡ cells.entry.ghost_name }
+        ensures long { length result.cells.now ≡ length cells.old }
     {
-        let front = cells.len().min(POSITIONS);
-        let far = cells.len() - front;
-        Draft {
-            cells: &mut cells[far..],
-            front,
-        }
+        let front = cells.len();
+        Draft::of(cells, front)
     }
 
     /// The code that stands in a table already, from `front` on.
+    #[tactic(auto, unfolding(crate::specs::Drafted::code_of))]
     pub fn of(cells: &'a mut [Cell], front: usize) -> Draft<'a>
         requires within { front ≤ length cells.old }
-        requires few { length cells.old < 2 ^ 31 }
-        ensures code { result.code ≡ drop front cells.old }
-        ensures room { result.room ≡ front }
+        ensures code { code_of result ≡ drop front cells.old }
+        ensures room { room_of result ≡ front }
+        ensures lender { result.cells.ghost_name ≡ cells.entry.ghost_name }
+        ensures long { length result.cells.now ≡ length cells.old }
     {
         Draft { cells, front }
     }
 
+    /// Where in its table the code begins, which is how many more words there is room for.
+    #[tactic(auto, unfolding(crate::specs::Drafted::code_of))]
+    pub fn front(&self) -> usize
+        ensures room { result ≡ room_of self.now }
+        ensures code { drop result self.now.cells.now ≡ code_of self.now }
+        ensures whole { result + length (code_of self.now) ≡ length self.now.cells.now }
+    {
+        self.cells.len() - self.len()
+    }
+
     /// The cells of the code so far.
+    #[tactic(auto, unfolding(crate::specs::Drafted::code_of))]
     pub fn code(&self) -> &[Cell]
-        ensures code { result.now ≡ self.now.code }
-        ensures few { length result.now < 2 ^ 31 }
+        ensures code { result.now ≡ code_of self.now }
+        ensures within { length result.now ≤ length self.now.cells.now }
     {
         &self.cells[self.front..]
     }
 
     /// The cells of the code, for as long as the table is lent.
+    #[tactic(auto, unfolding(crate::specs::Drafted::code_of))]
     pub fn into_code(self) -> &'a [Cell]
-        ensures { result.now ≡ self.entry.code }
+        ensures { result.now ≡ code_of self.entry }
     {
         let Draft { cells, front } = self;
         &cells[front..]
     }
 
     /// How many words the code has so far.
+    #[tactic(auto, unfolding(crate::specs::Drafted::code_of))]
     pub fn len(&self) -> usize
-        ensures { result ≡ length self.now.code }
+        ensures { result ≡ length (code_of self.now) }
     {
         self.cells.len() - self.front
     }
 
     /// What the code begins with.
     pub fn head(&self) -> Head
-        ensures { result ≡ head_of self.now.code }
+        ensures { result ≡ head_of (code_of self.now) }
     {
-        let code = self.code();
-        let first = cell_at(code, 0);
-        if first.label {
-            return Head::Other;
-        }
-        head_of_word(first.word, first.mark, cell_at(code, 1).word)
+        head_in(self.code())
     }
 
     /// The operand of RET, labelled or not, if the code begins with one.
     pub fn first_return(&self) -> Option<u16>
-        ensures { result ≡ return_of self.now.code }
+        ensures { result ≡ return_of (code_of self.now) }
     {
-        let code = self.code();
-        return_of_word(cell_at(code, 0).word, cell_at(code, 1).word)
+        return_in(self.code())
     }
 
     /// Sets a label before the code.
+    #[tactic(auto, unfolding(crate::specs::Drafted::code_of))]
     pub fn flag(&mut self)
-        ensures code { self.new.code ≡ flagged self.old.code }
-        ensures room { self.new.room ≡ self.old.room }
+        ensures code { code_of self.new ≡ flagged (code_of self.old) }
+        ensures room { room_of self.new ≡ room_of self.old }
+        ensures table { IsSameTable self.old self.new }
     {
         flag_first(&mut self.cells[self.front..]);
     }
 
     /// Takes cells off the front.
+    #[tactic(auto, unfolding(crate::specs::Drafted::code_of))]
     pub fn drop_first(&mut self, count: usize)
-        requires within { count ≤ length self.old.code }
-        ensures code { self.new.code ≡ drop count self.old.code }
-        ensures room { self.new.room ≡ self.old.room + count }
+        requires within { count ≤ length (code_of self.old) }
+        ensures code { code_of self.new ≡ drop count (code_of self.old) }
+        ensures room { room_of self.new ≡ room_of self.old + count }
+        ensures table { IsSameTable self.old self.new }
     {
         self.front += count;
     }
 
     /// Drops the code that nothing reaches: all before the first label.
-    #[tactic(auto, using(crate::proofs::Steps::prefix_dead))]
+    #[tactic(auto, unfolding(crate::specs::Drafted::code_of))]
     pub fn drop_dead(&mut self)
-        ensures code { self.new.code ≡ dead_cells self.old.code }
-        ensures room { self.old.room ≤ self.new.room }
+        ensures code { code_of self.new ≡ dead_cells (code_of self.old) }
+        ensures room { room_of self.old ≤ room_of self.new }
+        ensures table { IsSameTable self.old self.new }
     {
         self.drop_first(dead_in(self.code()));
     }
 
     // Puts a word in front.
+    #[tactic(auto, unfolding(crate::specs::Drafted::code_of))]
     pub(crate) fn lay(&mut self, word: Word, mark: usize)
-        requires room { 1 ≤ self.old.room }
-        ensures code { self.new.code ≡ cell word mark ∷ self.old.code }
-        ensures room { self.new.room + 1 ≡ self.old.room }
+        requires room { 1 ≤ room_of self.old }
+        ensures code { code_of self.new ≡ cell word mark ∷ code_of self.old }
+        ensures room { room_of self.new + 1 ≡ room_of self.old }
+        ensures table { IsSameTable self.old self.new }
     {
         self.front -= 1;
         self.cells[self.front] = Cell {

@@ -2,6 +2,7 @@
 ghost use Rattle.std.specs.Prelude.{◌≡◌, ◌+◌, ◌≤◌, ◌∷◌, length};
 ghost use Rattle.meaning.specs.Words.{is_zero, flag};
 ghost use Rattle.draft.specs.Cells.{cell, dead_cells};
+ghost use Rattle.draft.specs.Drafted.{code_of, room_of, IsSameTable};
 ghost use Rattle.draft.specs.Operations.{place_mark, jump_put, reaches, goto_put, not_put, constant, planned, plan_of, off, constant_put, target_of, labelled_cells, exit_of, left_cells, returned, exit_put, called, replaced};
 
 use crate::Draft;
@@ -78,18 +79,20 @@ fn plan_for(head: Head, zero: bool, one: bool) -> Plan
 impl Draft<'_> {
     /// An instruction without operands.
     pub fn put_one(&mut self, instruction: Instruction, mark: usize)
-        requires room { 1 ≤ self.old.room }
-        ensures code { self.new.code ≡ cell (Word.Opcode instruction) mark ∷ self.old.code }
-        ensures room { self.new.room + 1 ≡ self.old.room }
+        requires room { 1 ≤ room_of self.old }
+        ensures code { code_of self.new ≡ cell (Word.Opcode instruction) mark ∷ code_of self.old }
+        ensures room { room_of self.new + 1 ≡ room_of self.old }
+        ensures table { IsSameTable self.old self.new }
     {
         self.lay(Word::Opcode(instruction), mark);
     }
 
     /// An instruction with one operand.
     pub fn put_two(&mut self, instruction: Instruction, operand: Word, mark: usize)
-        requires room { 2 ≤ self.old.room }
-        ensures code { self.new.code ≡ cell (Word.Opcode instruction) mark ∷ (cell operand mark ∷ self.old.code) }
-        ensures room { self.new.room + 2 ≡ self.old.room }
+        requires room { 2 ≤ room_of self.old }
+        ensures code { code_of self.new ≡ cell (Word.Opcode instruction) mark ∷ (cell operand mark ∷ code_of self.old) }
+        ensures room { room_of self.new + 2 ≡ room_of self.old }
+        ensures table { IsSameTable self.old self.new }
     {
         self.lay(operand, mark);
         self.lay(Word::Opcode(instruction), mark);
@@ -97,9 +100,10 @@ impl Draft<'_> {
 
     /// CALL, with the count of arguments and the function.
     pub fn put_call(&mut self, count: u16, function: usize, mark: usize)
-        requires room { 3 ≤ self.old.room }
-        ensures code { self.new.code ≡ called count function mark self.old.code }
-        ensures room { self.new.room + 3 ≡ self.old.room }
+        requires room { 3 ≤ room_of self.old }
+        ensures code { code_of self.new ≡ called count function mark (code_of self.old) }
+        ensures room { room_of self.new + 3 ≡ room_of self.old }
+        ensures table { IsSameTable self.old self.new }
     {
         self.lay(Word::Entry(function), mark);
         self.put_two(Instruction::Call, Word::Count(count), mark);
@@ -107,9 +111,10 @@ impl Draft<'_> {
 
     /// TCALL, after which what nothing reaches is dropped.
     pub fn put_replacing(&mut self, count: u16, total: u16, function: usize, mark: usize)
-        requires room { 4 ≤ self.old.room }
-        ensures code { self.new.code ≡ replaced count total function mark (dead_cells self.old.code) }
-        ensures room { self.old.room ≤ self.new.room + 4 }
+        requires room { 4 ≤ room_of self.old }
+        ensures code { code_of self.new ≡ replaced count total function mark (dead_cells (code_of self.old)) }
+        ensures room { room_of self.old ≤ room_of self.new + 4 }
+        ensures table { IsSameTable self.old self.new }
     {
         self.drop_dead();
         self.lay(Word::Entry(function), mark);
@@ -119,18 +124,20 @@ impl Draft<'_> {
 
     /// A jump, or a conditional one, to the place: a jump to a loop carries the loop's mark.
     pub fn put_jump(&mut self, instruction: Instruction, place: Place, mark: usize)
-        requires room { 2 ≤ self.old.room }
-        ensures code { self.new.code ≡ jump_put instruction place mark self.old.code }
-        ensures room { self.new.room + 2 ≡ self.old.room }
+        requires room { 2 ≤ room_of self.old }
+        ensures code { code_of self.new ≡ jump_put instruction place mark (code_of self.old) }
+        ensures room { room_of self.new + 2 ≡ room_of self.old }
+        ensures table { IsSameTable self.old self.new }
     {
         self.put_two(instruction, Word::To(place), place.mark_of(mark));
     }
 
     /// GOTO: what nothing reaches then is dropped, and a jump to what comes next is not written.
     pub fn put_goto(&mut self, place: Place, mark: usize)
-        requires room { 2 ≤ self.old.room }
-        ensures code { self.new.code ≡ goto_put place mark self.old.code }
-        ensures room { self.old.room ≤ self.new.room + 2 }
+        requires room { 2 ≤ room_of self.old }
+        ensures code { code_of self.new ≡ goto_put place mark (code_of self.old) }
+        ensures room { room_of self.old ≤ room_of self.new + 2 }
+        ensures table { IsSameTable self.old self.new }
     {
         self.drop_dead();
         if !place.reaches(self.len()) {
@@ -140,9 +147,10 @@ impl Draft<'_> {
 
     /// NOT, which turns a conditional jump that follows.
     pub fn put_not(&mut self, mark: usize)
-        requires room { 2 ≤ self.old.room }
-        ensures code { self.new.code ≡ not_put mark self.old.code }
-        ensures room { self.old.room ≤ self.new.room + 2 }
+        requires room { 2 ≤ room_of self.old }
+        ensures code { code_of self.new ≡ not_put mark (code_of self.old) }
+        ensures room { room_of self.old ≤ room_of self.new + 2 }
+        ensures table { IsSameTable self.old self.new }
     {
         match self.head() {
             Head::Jumps(condition, place, own_mark) => {
@@ -155,17 +163,18 @@ impl Draft<'_> {
 
     /// CSTI, whatever follows.
     pub fn put_csti(&mut self, value: i32, mark: usize)
-        requires room { 2 ≤ self.old.room }
-        ensures code { self.new.code ≡ constant value mark self.old.code }
-        ensures room { self.new.room + 2 ≡ self.old.room }
+        requires room { 2 ≤ room_of self.old }
+        ensures code { code_of self.new ≡ constant value mark (code_of self.old) }
+        ensures room { room_of self.new + 2 ≡ room_of self.old }
+        ensures table { IsSameTable self.old self.new }
     {
         self.put_two(Instruction::Csti, Word::Number(value), mark);
     }
 
     // What becomes of a constant before the code.
     fn plan(&self, value: i32) -> Plan
-        ensures plan { result ≡ plan_of value self.now.code }
-        ensures within { off result ≤ length self.now.code }
+        ensures plan { result ≡ plan_of value (code_of self.now) }
+        ensures within { off result ≤ length (code_of self.now) }
     {
         plan_for(self.head(), value == 0, value == 1)
     }
@@ -173,9 +182,10 @@ impl Draft<'_> {
     /// A constant, shortened by what the code begins with.
     #[tactic(auto, using(crate::proofs::Steps::constant_plan))]
     pub fn put_constant(&mut self, value: i32, mark: usize)
-        requires room { 2 ≤ self.old.room }
-        ensures code { self.new.code ≡ constant_put value mark self.old.code }
-        ensures room { self.old.room ≤ self.new.room + 2 }
+        requires room { 2 ≤ room_of self.old }
+        ensures code { code_of self.new ≡ constant_put value mark (code_of self.old) }
+        ensures room { room_of self.old ≤ room_of self.new + 2 }
+        ensures table { IsSameTable self.old self.new }
     {
         match self.plan(value) {
             Plan::Write => self.put_csti(value, mark),
@@ -197,9 +207,10 @@ impl Draft<'_> {
 
     /// Where a jump to the code goes: the code is labelled unless it begins with GOTO.
     pub fn put_label(&mut self) -> Place
-        ensures code { self.new.code ≡ labelled_cells self.old.code }
-        ensures room { self.new.room ≡ self.old.room }
-        ensures to { result ≡ target_of self.old.code }
+        ensures code { code_of self.new ≡ labelled_cells (code_of self.old) }
+        ensures room { room_of self.new ≡ room_of self.old }
+        ensures table { IsSameTable self.old self.new }
+        ensures to { result ≡ target_of (code_of self.old) }
     {
         if let Head::Goes(place) = self.head() {
             return place;
@@ -210,9 +221,10 @@ impl Draft<'_> {
 
     /// How code that will come before the code gets there: the code is labelled unless it begins with GOTO or RET.
     pub fn put_way(&mut self) -> Exit
-        ensures code { self.new.code ≡ left_cells self.old.code }
-        ensures room { self.new.room ≡ self.old.room }
-        ensures to { result ≡ exit_of self.old.code }
+        ensures code { code_of self.new ≡ left_cells (code_of self.old) }
+        ensures room { room_of self.new ≡ room_of self.old }
+        ensures table { IsSameTable self.old self.new }
+        ensures to { result ≡ exit_of (code_of self.old) }
     {
         match self.first_return() {
             Some(count) => Exit::Return(count),
@@ -222,9 +234,10 @@ impl Draft<'_> {
 
     /// RET, after which what nothing reaches is dropped.
     pub fn put_return(&mut self, count: u16, mark: usize)
-        requires room { 2 ≤ self.old.room }
-        ensures code { self.new.code ≡ returned count mark (dead_cells self.old.code) }
-        ensures room { self.old.room ≤ self.new.room + 2 }
+        requires room { 2 ≤ room_of self.old }
+        ensures code { code_of self.new ≡ returned count mark (dead_cells (code_of self.old)) }
+        ensures room { room_of self.old ≤ room_of self.new + 2 }
+        ensures table { IsSameTable self.old self.new }
     {
         self.drop_dead(); // Nothing gets past a return.
         self.put_two(Instruction::Ret, Word::Count(count), mark);
@@ -232,9 +245,10 @@ impl Draft<'_> {
 
     /// The jump that `put_way` answered.
     pub fn put_exit(&mut self, exit: Exit, mark: usize)
-        requires room { 2 ≤ self.old.room }
-        ensures code { self.new.code ≡ exit_put exit mark self.old.code }
-        ensures room { self.old.room ≤ self.new.room + 2 }
+        requires room { 2 ≤ room_of self.old }
+        ensures code { code_of self.new ≡ exit_put exit mark (code_of self.old) }
+        ensures room { room_of self.old ≤ room_of self.new + 2 }
+        ensures table { IsSameTable self.old self.new }
     {
         match exit {
             Exit::Return(count) => self.put_return(count, mark),

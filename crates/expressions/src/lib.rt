@@ -6,6 +6,7 @@ ghost use Rattle.script.specs.Limits.{max_words};
 ghost use Rattle.meaning.specs.Meaning.{first_word};
 ghost use Rattle.meaning.specs.Tables.{expr_at, args_at};
 ghost use Rattle.scheme.specs.Scheme.{operator_code, expr_code, args_code};
+ghost use Rattle.draft.specs.Drafted.{code_of, room_of, IsSameTable};
 ghost use Rattle.phrases.specs.Turns.{Turns};
 ghost use Rattle.reading.specs.Nodes.{IsExpression, IsList, operator_read};
 ghost use Rattle.reading.specs.Room.{expr_room, args_room};
@@ -21,9 +22,10 @@ use script::limits::words_of;
 /// An operator, its operands on the stack.
 #[tactic(auto, using(phrases::proofs::Steps::drafting))]
 pub fn put_operator(draft: &mut Draft, operator: Operator, mark: usize)
-    requires room { 4 ≤ draft.old.room }
-    ensures code { Turns draft.old.code draft.new.code (operator_code (operator_read operator) mark) }
-    ensures room { draft.old.room ≤ draft.new.room + 4 }
+    requires room { 4 ≤ room_of draft.old }
+    ensures code { Turns (code_of draft.old) (code_of draft.new) (operator_code (operator_read operator) mark) }
+    ensures room { room_of draft.old ≤ room_of draft.new + 4 }
+    ensures table { IsSameTable draft.old draft.new }
 {
     match operator {
         Operator::Add => draft.put_one(Instruction::Add, mark),
@@ -69,9 +71,10 @@ fn first_word(script: Script, g: usize) -> usize
 pub fn put_expression(script: Script, n: usize, draft: &mut Draft)
     requires node { n < length script.nodes.now }
     requires sort { IsExpression script.nodes.now n }
-    requires room { expr_room (expr_at script.nodes.now n) ≤ draft.old.room }
-    ensures code { Turns draft.old.code draft.new.code (expr_code script.entry.globals.now (expr_at script.entry.nodes.now n)) }
-    ensures room { draft.old.room ≤ draft.new.room + expr_room (expr_at script.entry.nodes.now n) }
+    requires room { expr_room (expr_at script.nodes.now n) ≤ room_of draft.old }
+    ensures code { Turns (code_of draft.old) (code_of draft.new) (expr_code script.entry.globals.now (expr_at script.entry.nodes.now n)) }
+    ensures room { room_of draft.old ≤ room_of draft.new + expr_room (expr_at script.entry.nodes.now n) }
+    ensures table { IsSameTable draft.old draft.new }
 {
     match expression_at(script, n) {
         Expression::Constant(v) => draft.put_constant(v, n),
@@ -143,9 +146,10 @@ pub fn put_expression(script: Script, n: usize, draft: &mut Draft)
 pub fn put_arguments(script: Script, n: usize, draft: &mut Draft)
     requires node { n < length script.nodes.now }
     requires sort { IsList script.nodes.now n }
-    requires room { args_room (args_at script.nodes.now n) ≤ draft.old.room }
-    ensures code { Turns draft.old.code draft.new.code (args_code script.entry.globals.now (args_at script.entry.nodes.now n)) }
-    ensures room { draft.old.room ≤ draft.new.room + args_room (args_at script.entry.nodes.now n) }
+    requires room { args_room (args_at script.nodes.now n) ≤ room_of draft.old }
+    ensures code { Turns (code_of draft.old) (code_of draft.new) (args_code script.entry.globals.now (args_at script.entry.nodes.now n)) }
+    ensures room { room_of draft.old ≤ room_of draft.new + args_room (args_at script.entry.nodes.now n) }
+    ensures table { IsSameTable draft.old draft.new }
 {
     match arguments_at(script.nodes, n) {
         Arguments::Empty => {}

@@ -5,6 +5,7 @@
 ghost use Rattle.std.specs.Prelude.{◌+◌, ◌<◌, ◌≤◌, length};
 ghost use Rattle.meaning.specs.Tables.{stmt_at};
 ghost use Rattle.scheme.specs.Scheme.{stmt_code};
+ghost use Rattle.draft.specs.Drafted.{code_of, room_of, IsSameTable};
 ghost use Rattle.phrases.specs.Turns.{Turns};
 ghost use Rattle.reading.specs.Nodes.{IsStatement, whiles};
 ghost use Rattle.reading.specs.Room.{stmt_room};
@@ -38,13 +39,14 @@ pub fn put_statement(
 )
     requires node { n < length script.nodes.now }
     requires sort { IsStatement script.nodes.now n }
-    requires room { stmt_room (stmt_at script.nodes.now n) ≤ draft.old.room }
+    requires room { stmt_room (stmt_at script.nodes.now n) ≤ room_of draft.old }
     requires open { loops.old.used + whiles (stmt_at script.nodes.now n) ≤ length loops.old.slots.now }
     requires starts { length script.nodes.now ≤ length starts.old }
-    ensures code { Turns draft.old.code draft.new.code (stmt_code script.entry.globals.now total (stmt_at script.entry.nodes.now n)) }
-    ensures room { draft.old.room ≤ draft.new.room + stmt_room (stmt_at script.entry.nodes.now n) }
+    ensures code { Turns (code_of draft.old) (code_of draft.new) (stmt_code script.entry.globals.now total (stmt_at script.entry.nodes.now n)) }
+    ensures room { room_of draft.old ≤ room_of draft.new + stmt_room (stmt_at script.entry.nodes.now n) }
+    ensures table { IsSameTable draft.old draft.new }
     ensures loops { IsAsBefore loops.old loops.new }
-    ensures starts { Learns draft.old.code starts.old starts.new (stmt_code script.entry.globals.now total (stmt_at script.entry.nodes.now n)) }
+    ensures starts { Learns (code_of draft.old) starts.old starts.new (stmt_code script.entry.globals.now total (stmt_at script.entry.nodes.now n)) }
 {
     match statement_at(script.functions, script.nodes, n) {
         Statement::Nothing => {}

@@ -10,6 +10,7 @@ ghost use Rattle.script.specs.Limits.{max_functions, max_nodes};
 ghost use Rattle.script.specs.Scope.{function_at};
 ghost use Rattle.scheme.specs.Scheme.{zeros_code, script_code};
 ghost use Rattle.draft.specs.Draft as D;
+ghost use Rattle.draft.specs.Drafted.{code_of, room_of, IsSameTable};
 ghost use Rattle.phrases.specs.Turns.{Turns};
 ghost use Rattle.statements.specs.Learns.{Knows, Learns, KnowsEntries, LearnsEntries, IsAsBefore};
 ghost use Rattle.room.specs.Bound.{function_room, functions_room, draft_room};
@@ -30,9 +31,10 @@ const NO_NODE: usize = NO_PLACE as usize;
 // A 0 for each further local.
 #[tactic(auto, using(phrases::proofs::Steps::drafting, crate::proofs::FunctionLaws::codes))]
 fn put_zeros(draft: &mut Draft, count: u16)
-    requires room { 2 * count ≤ draft.old.room }
-    ensures code { Turns draft.old.code draft.new.code (zeros_code count) }
-    ensures room { draft.old.room ≤ draft.new.room + 2 * count }
+    requires room { 2 * count ≤ room_of draft.old }
+    ensures code { Turns (code_of draft.old) (code_of draft.new) (zeros_code count) }
+    ensures room { room_of draft.old ≤ room_of draft.new + 2 * count }
+    ensures table { IsSameTable draft.old draft.new }
 {
     for _i in 0..count {
         draft.put_constant(0, NO_NODE);
@@ -52,14 +54,15 @@ fn put_function(
     requires number { number < length script.functions.now }
     requires suits { Suits script (length loops.old.slots.now - loops.old.used) number }
     requires open { loops.old.used ≤ length loops.old.slots.now }
-    requires room { function_room script.nodes.now (function_at script.functions.now number) ≤ draft.old.room }
+    requires room { function_room script.nodes.now (function_at script.functions.now number) ≤ room_of draft.old }
     requires starts { length script.nodes.now ≤ length starts.old }
     requires entries { number < length entries.old }
-    ensures code { Turns draft.old.code draft.new.code (entered_code script.entry number) }
-    ensures room { draft.old.room ≤ draft.new.room + function_room script.entry.nodes.now (function_at script.entry.functions.now number) }
+    ensures code { Turns (code_of draft.old) (code_of draft.new) (entered_code script.entry number) }
+    ensures room { room_of draft.old ≤ room_of draft.new + function_room script.entry.nodes.now (function_at script.entry.functions.now number) }
+    ensures table { IsSameTable draft.old draft.new }
     ensures loops { IsAsBefore loops.old loops.new }
-    ensures starts { Learns draft.old.code starts.old starts.new (entered_code script.entry number) }
-    ensures entries { LearnsEntries draft.old.code entries.old entries.new (entered_code script.entry number) }
+    ensures starts { Learns (code_of draft.old) starts.old starts.new (entered_code script.entry number) }
+    ensures entries { LearnsEntries (code_of draft.old) entries.old entries.new (entered_code script.entry number) }
 {
     let function = script.functions[number];
     let total = function.parameters + function.locals;
@@ -89,14 +92,15 @@ fn put_functions(
 )
     requires suits { AllSuit script (length loops.old.slots.now - loops.old.used) }
     requires open { loops.old.used ≤ length loops.old.slots.now }
-    requires empty { draft.old.code ≡ [] }
-    requires room { functions_room script.nodes.now script.functions.now ≤ draft.old.room }
+    requires empty { code_of draft.old ≡ [] }
+    requires room { functions_room script.nodes.now script.functions.now ≤ room_of draft.old }
     requires starts { length script.nodes.now ≤ length starts.old }
     requires entries { length script.functions.now ≤ length entries.old }
     requires no_loops { Knows starts.old [] }
     requires no_functions { KnowsEntries entries.old [] }
-    ensures code { draft.new.code ≡ D.draft (code_from script.entry 0) }
-    ensures room { draft.old.room ≤ draft.new.room + functions_room script.entry.nodes.now script.entry.functions.now }
+    ensures code { code_of draft.new ≡ D.draft (code_from script.entry 0) }
+    ensures room { room_of draft.old ≤ room_of draft.new + functions_room script.entry.nodes.now script.entry.functions.now }
+    ensures table { IsSameTable draft.old draft.new }
     ensures loops { IsAsBefore loops.old loops.new }
     ensures starts { Knows starts.new (code_from script.entry 0) }
     ensures entries { KnowsEntries entries.new (code_from script.entry 0) }

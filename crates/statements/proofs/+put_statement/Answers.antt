@@ -10,6 +10,7 @@ use Rattle.statements.specs.declared.LoopLabel.{LoopLabel}
 use Rattle.phrases.proofs.Steps.{drafting}
 use Rattle.statements.proofs.StmtLaws.{codes, code_while, found}
 use Rattle.scheme.specs.Written.{loop_end, none_of}
+use Rattle.draft.specs.Drafted.{code_of}
 use Rattle.statements.proofs.EndLaws.{ends_goto, ends_labelled, ends_expr}
 use Rattle.statements.proofs.Stacked.{same_loop, as_before}
 use Rattle.statements.proofs.+put_statement.Goals as goal
@@ -49,8 +50,8 @@ returns-in-Some-clause-starts t c =
     let M : S.Code = W.add_goto (S.loop n) n (W.labelled C) in
     let I : S.Code = S.ifzero (W.target C) n ∷ stmt_code ls c.args.total (stmt_at c.args.script.nodes.now c.in-While.b) M in
     let P : S.Code = expr_code ls (expr_at c.args.script.nodes.now c.in-While.a) I in
-    let m : c.put_goto.new.self.code ≡ draft M = grind (arith, drafting) in
-    let l : c.flag.new.self.code ≡ draft (S.loop_at n ∷ P) = grind (arith, drafting) in
+    let m : code_of c.put_goto.new.self ≡ draft M = grind (arith, drafting) in
+    let l : code_of c.flag.new.self ≡ draft (S.loop_at n ∷ P) = grind (arith, drafting) in
     let x = λ (v : ℕ). c.put_statement-in-While.ensures.starts M m (λ u. k u ∙ sym (ends_goto (eqb u) none_of (S.loop n) n (W.labelled C) ∙ ends_labelled (eqb u) none_of C)) v ∙ sym (ends_expr (eqb v) none_of ls _ I) in
     let z = found _ n c.len.result P (search rules) (c.len.ensures ∙ ap length l ∙ length-draft (S.loop_at n ∷ P)) x w in
     ap (λ (o : LoopLabel). get_or (set c.put_statement-in-While.new.starts o.node c.len.result) w 0) e ∙ z

@@ -18,6 +18,7 @@ loop-number-init c =
       entries = λ f. c.requires.no_functions f ∙ sym (ap (λ P. entry_end P f) e);
       room = omega (arith, r);
       taken = omega (arith, r);
+      table = record { lender = refl; long = refl };
       loops = record { used = refl; long = refl; kept = refl; lender = refl };
     }
 

@@ -3,6 +3,7 @@ use Rattle.script.proofs.SoundLaws.{script_sound}
 use Rattle.scheme.specs.Scheme.{script_code}
 use Rattle.draft.specs.Draft.{draft}
 use Rattle.draft.proofs.DraftLaws.{length-draft}
+use Rattle.draft.specs.Drafted.{code_of}
 use Rattle.phrases.proofs.Steps.{drafting}
 use Rattle.resolving.specs.Resolved.{cell_word, cell_mark}
 use Rattle.resolving.proofs.WordLaws.{words_all, marks_all}
@@ -18,7 +19,7 @@ returns-clause-placed c =
     let P = script_code (tree_of c.args.script) in
     let starts = c.put_functions.new.starts in
     let entries = c.put_functions.new.entries in
-    let e : c.put_one-2.new.self.code ≡ draft P = grind (arith, drafting, codes) in
+    let e : code_of c.put_one-2.new.self ≡ draft P = grind (arith, drafting, codes) in
     let s = c.len.ensures ∙ ap length e ∙ length-draft P in
     let u : c.in_ok-start.start ≤ length c.args.words.now = search rules in
     let v : c.in_ok-start.start ≤ length c.args.marks.now = omega (arith, c.requires.marks) in

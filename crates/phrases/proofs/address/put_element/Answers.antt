@@ -4,6 +4,7 @@ use Rattle.scheme.specs.Writing as W
 use Rattle.draft.specs.Draft.{draft}
 use Rattle.draft.specs.declared.cells.Place.TheVariants.{Behind}
 use Rattle.draft.proofs.DraftLaws.{length-draft}
+use Rattle.draft.specs.Drafted.{code_of}
 use Rattle.phrases.proofs.Steps.{drafting}
 use Rattle.phrases.proofs.address.put_element.Goals as goal
 
@@ -12,7 +13,7 @@ returns-clause-code c = λ C h.
     let n = c.args.mark in
     let O : S.Code = W.add_cst (pos c.args.first) n (S.plain S.add n ∷ C) in
     let T : S.Code = S.csti (negsuc 0) n ∷ (S.plain S.ldi n ∷ (S.label ∷ O)) in
-    let a : c.put_one.new.self.code ≡ draft (S.plain S.add n ∷ C) = grind (arith, drafting) in
+    let a : code_of c.put_one.new.self ≡ draft (S.plain S.add n ∷ C) = grind (arith, drafting) in
     let o = c.put_number.ensures.code _ a in
     let t = c.put_outside.ensures.code O o in
     let inside : c.len.result ≡ S.size O = c.len.ensures ∙ ap length o ∙ length-draft O in

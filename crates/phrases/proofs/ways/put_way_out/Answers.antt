@@ -28,4 +28,5 @@ returns-in_default c = record {
       let f : SFits w32 c.decided.result = search rules in
       subst (IsWay _ _ _) (ap (λ i. short_way i c.args.mark C) c.decided.ensures ∙ way_short c.args.decides c.args.mark C u) (simp to_z-of_z at c.put_short.ensures.code C h);
   room = search rules;
+  table = search rules;
 }
