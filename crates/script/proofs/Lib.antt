@@ -1,4 +1,5 @@
 pub mod EveryLaws
+pub mod KindLaws
 pub mod LeastLaws
 pub mod FaultLaws
 pub mod ShapeLaws

@@ -1,10 +1,11 @@
 // How often a node is used, as a child or as a body: exactly once, in a script.
-ghost use Rattle.std.specs.Prelude.{◌≡◌, ◌*◌, ◌≤◌, length};
+ghost use Rattle.std.specs.Prelude.{◌≡◌, ◌+◌, ◌*◌, ◌≤◌, length};
 ghost use Rattle.script.specs.Limits.{max_nodes, max_functions};
-ghost use Rattle.script.specs.Uses.{is_number, child_uses, uses_as_child, uses_as_body, misused};
+ghost use Rattle.script.specs.Uses.{is_number, uses, child_uses, uses_as_child, uses_as_body, misused};
 ghost use Rattle.script.specs.Fault.{answer_of, uses_fault};
 
 use crate::fault::refuse_least;
+use crate::kinds::Sort;
 use crate::{Function, Node};
 use answer::{Reason, Refusal};
 
@@ -15,15 +16,23 @@ fn is_number(x: i32, n: usize) -> bool
     usize::try_from(x).is_ok_and(|m| m == n)
 }
 
+// 1 where the field holds a child, and the child is the node n.
+fn uses_in(want: Option<Sort>, x: i32, n: usize) -> usize
+    ensures value { result ≡ uses want x n }
+    ensures few { result ≤ 1 }
+{
+    usize::from(want.is_some() && is_number(x, n))
+}
+
 /// How many of the node's children are the node n.
+#[tactic(auto, unfolding(crate::specs::Uses::child_uses))]
 pub(crate) fn child_uses(node: &Node, n: usize) -> usize
     ensures value { result ≡ child_uses node.now n }
     ensures few { result ≤ 3 }
 {
-    node.fields()
-        .iter()
-        .filter(|(x, want)| want.is_some() && is_number(*x, n))
-        .count()
+    // field by field, since this is asked of each two nodes, and an iterator would go through memory for it
+    let [(a, in_a), (b, in_b), (c, in_c)] = node.fields();
+    uses_in(in_a, a, n) + uses_in(in_b, b, n) + uses_in(in_c, c, n)
 }
 
 fn uses_as_child(nodes: &[Node], n: usize) -> usize
