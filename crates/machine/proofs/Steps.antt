@@ -136,7 +136,7 @@ pub step_out : (t : Setup) (s : State) → among s.registers.position (length t.
 unfolding step
 step_out t s u = ap (λ (b : Bool). cond b (acted (decode (get_or t.code (nat_abs s.registers.position) (pos 0))) (view t s) s) (halts OutsideCode)) u
 
-within_code : (a : ℤ) (n : ℕ) → n ≤ code_limit → among a n ≡ true → (pos 0 ≤ℤ a) × (a <ℤ pos code_limit)
+pub within_code : (a : ℤ) (n : ℕ) → n ≤ code_limit → among a n ≡ true → (pos 0 ≤ℤ a) × (a <ℤ pos code_limit)
 within_code (pos k) n h e = let j = ltb-true k n e in (omega (arith, ints), omega (arith, ints))
 within_code (negsuc k) n h e = absurd (clash e)
 
