@@ -46,7 +46,9 @@ impl Tables {
 
 // a stack of so many words, zeros but for the starting words at its front
 fn stack_of(heap: Global, size: usize, words: &[i32]) -> Result<Vec<i32>, AllocError> {
-    let mut stack = Vec::from_slice(heap, words)?;
+    let mut stack = Vec::with_capacity(heap, size)?;
+    // no more of them than fit: a stack that is too short for them is refused, and costs its own size
+    stack.extend_from_slice(words.get(..size).unwrap_or(words))?;
     stack.resize(size, 0)?;
     Ok(stack)
 }

@@ -296,19 +296,15 @@ fn read_node<'a>(mut words: Words<'a>) -> Result<Node, Fault<'a>> {
     Ok(node)
 }
 
-/// Reads one line for a program that has no station: whatever else a line says that begins with the word of a
-/// station's call, it is not served.
-pub fn read_line_without_station<'a>(heap: Global, text: &'a str) -> Result<Line, Fault<'a>>
+// What a line says whose first word is that of no station's call.
+fn read_stationless<'a>(
+    heap: Global,
+    word: &'a str,
+    mut words: Words<'a>,
+) -> Result<Line, Fault<'a>>
     ensures limited { IfOk result Limited }
     ensures served { IfOk result IsStationless }
 {
-    if text.starts_with('#') {
-        return Ok(Line::Comment);
-    }
-    let mut words = Words::of(text);
-    let Some(word) = words.left.next() else {
-        return Ok(Line::Blank);
-    };
     match word {
         "code" => Ok(Line::Code(words.numbers(heap)?)),
         "words" => Ok(Line::Words(words.numbers(heap)?)),
@@ -325,18 +321,39 @@ pub fn read_line_without_station<'a>(heap: Global, text: &'a str) -> Result<Line
     }
 }
 
+/// Reads one line for a program that has no station: whatever else a line says that begins with the word of a
+/// station's call, it is not served.
+pub fn read_line_without_station<'a>(heap: Global, text: &'a str) -> Result<Line, Fault<'a>>
+    ensures limited { IfOk result Limited }
+    ensures served { IfOk result IsStationless }
+{
+    if text.starts_with('#') {
+        return Ok(Line::Comment);
+    }
+    let mut words = Words::of(text);
+    match words.left.next() {
+        None => Ok(Line::Blank),
+        Some(word) => read_stationless(heap, word, words),
+    }
+}
+
 /// Reads one line. Whatever it says, its sizes are within the limit.
 pub fn read_line<'a>(heap: Global, text: &'a str) -> Result<Line, Fault<'a>>
     ensures { IfOk result Limited }
 {
+    // before its words are looked for: a comment may be one long word
+    if text.starts_with('#') {
+        return Ok(Line::Comment);
+    }
     let mut words = Words::of(text);
     match words.left.next() {
+        None => Ok(Line::Blank),
         Some("pass") => Ok(Line::Pass(read_execution(heap, words)?)),
         Some("packet") => Ok(Line::Packet(read_packet(heap, words)?)),
         Some("clear") => {
             words.end()?;
             Ok(Line::Clear)
         }
-        _ => read_line_without_station(heap, text),
+        Some(word) => read_stationless(heap, word, words),
     }
 }
