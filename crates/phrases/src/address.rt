@@ -11,6 +11,14 @@ use draft::Draft;
 use draft::cells::Place;
 use rules::Instruction;
 
+// A small number as a word: here alone, so that the cast is proved once for all that use it.
+fn word_of(number: usize) -> i32
+    requires { number < 2 ^ 31 }
+    ensures { result ≡ pos number }
+{
+    number as i32
+}
+
 /// A small number, shortened by what the code begins with.
 #[tactic(auto, using(crate::proofs::Steps::drafting))]
 pub fn put_number(draft: &mut Draft, number: usize, mark: usize)
@@ -20,7 +28,7 @@ pub fn put_number(draft: &mut Draft, number: usize, mark: usize)
     ensures room { room_of draft.old ≤ room_of draft.new + 2 }
     ensures table { IsSameTable draft.old draft.new }
 {
-    draft.put_constant(number as i32, mark);
+    draft.put_constant(word_of(number), mark);
 }
 
 /// The address of a local, by its number.
@@ -80,6 +88,6 @@ pub fn put_element(draft: &mut Draft, len: usize, first: usize, mark: usize)
     let inside = Place::Behind(draft.len());
     put_outside(draft, mark);
     let outside = Place::Behind(draft.len());
-    put_test(draft, len as i32, inside, mark);
+    put_test(draft, word_of(len), inside, mark);
     put_test(draft, 0, outside, mark);
 }

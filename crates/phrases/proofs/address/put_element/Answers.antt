@@ -21,4 +21,4 @@ returns-clause-code c = λ C h.
     let q = c.put_test.ensures.code (S.behind (S.size O)) (ap Behind inside) (S.label ∷ T) t in
     let l : to_z w32 c.args.len ≡ pos c.args.len = search rules in
     let r = c.put_test-2.ensures.code (S.behind (S.size T)) (ap Behind outside) _ q in
-    rw l at r
+    rw (c.word_of.ensures, l) at r
