@@ -1,3 +1,4 @@
 pub mod DraftLaws
+pub mod PositionLaws
 pub mod Steps
 pub mod Widths

@@ -1,5 +1,5 @@
 -- What a draft is: the cells of the code so far, how many more there is room for, and the table that both lie in.
-use Rattle.std.specs.Prelude.{◌≡◌, ℕ, List, length, drop}
+use Rattle.std.specs.Prelude.{◌≡◌, ℕ, ◌≤◌, List, length, drop}
 use Rattle.draft.specs.declared.Draft.{Draft}
 use Rattle.draft.specs.declared.cells.Cell.{Cell}
 
@@ -13,3 +13,12 @@ room_of d = d.front
 pub record IsSameTable (was is : Draft) : Type 0 where
   pub lender : is.cells.ghost_name ≡ was.cells.ghost_name
   pub long : length is.cells.now ≡ length was.cells.now
+
+-- how many words code can have: the end of them is a position too, and each position is a word that is not negative
+abbrev pub positions : ℕ
+positions = 2147483647
+
+-- each word of the code has a position, and so has each that will be put in front of it: the table has no more cells than that. It is so of
+-- the drafts that a script is written in, since the writer asks it of their cells
+abbrev pub HasPositions : Draft → Type 0
+HasPositions d = length d.cells.now ≤ positions

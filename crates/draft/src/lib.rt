@@ -2,11 +2,13 @@
 // that put an instruction in front of what is written. Each does to the cells what the scheme does to symbolic code.
 #![tactic(auto)]
 
-ghost use Rattle.std.specs.Prelude.{◌≡◌, ◌+◌, ◌<◌, ◌≤◌, ◌∷◌, [], length, drop};
+ghost use Rattle.std.specs.Prelude.{◌≡◌, ◌+◌, ◌^◌, ◌<◌, ◌≤◌, ◌∷◌, [], length, drop};
 ghost use Rattle.draft.specs.Cells.{cell, flagged, head_of, return_of, dead_cells};
 
 pub mod cells;
 pub mod put;
+#[cfg(test)]
+mod tests;
 
 use cells::{Cell, Head, Word, dead_in, flag_first, head_in, return_in};
 
@@ -20,9 +22,10 @@ pub struct Draft<'a> {
 }
 
 // To contracts a draft is the cells of the code so far (`code_of`), and how many more there is room for (`room_of`). All that changes one
-// keeps its table (`IsSameTable`), so that who lent that knows afterwards what it holds.
+// keeps its table (`IsSameTable`), so that who lent that knows afterwards what it holds. A table that has a position for each word
+// (`HasPositions`) has one still.
 impl<'a> Draft<'a> {
-    ghost use Rattle.draft.specs.Drafted.{code_of, room_of, IsSameTable};
+    ghost use Rattle.draft.specs.Drafted.{code_of, room_of, IsSameTable, HasPositions};
 
     /// No code yet, with room for as many words as there are cells.
     pub fn over(cells: &'a mut [Cell]) -> Draft<'a>
@@ -62,6 +65,7 @@ impl<'a> Draft<'a> {
     pub fn code(&self) -> &[Cell]
         ensures code { result.now ≡ code_of self.now }
         ensures within { length result.now ≤ length self.now.cells.now }
+        ensures few { HasPositions self.now → length result.now < 2 ^ 31 }
     {
         &self.cells[self.front..]
     }
