@@ -1,5 +1,5 @@
 -- What a draft is: the cells of the code so far, how many more there is room for, and the table that both lie in.
-use Rattle.std.specs.Prelude.{◌≡◌, ℕ, ◌≤◌, List, length, drop}
+use Rattle.std.specs.Prelude.{◌≡◌, ℕ, ◌+◌, ◌≤◌, List, length, drop}
 use Rattle.draft.specs.declared.Draft.{Draft}
 use Rattle.draft.specs.declared.cells.Cell.{Cell}
 
@@ -22,3 +22,7 @@ positions = 2147483647
 -- the drafts that a script is written in, since the writer asks it of their cells
 abbrev pub HasPositions : Draft → Type 0
 HasPositions d = length d.cells.now ≤ positions
+
+-- who keeps the table keeps the positions, and its code and the room before it are together no more words than there are
+abbrev pub PositionsStay : Type 0
+PositionsStay = (was is : Draft) → IsSameTable was is → HasPositions was → HasPositions is × (length (code_of is) + room_of is ≤ positions)

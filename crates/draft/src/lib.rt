@@ -23,7 +23,7 @@ pub struct Draft<'a> {
 
 // To contracts a draft is the cells of the code so far (`code_of`), and how many more there is room for (`room_of`). All that changes one
 // keeps its table (`IsSameTable`), so that who lent that knows afterwards what it holds. A table that has a position for each word
-// (`HasPositions`) has one still.
+// (`HasPositions`) has one still (`put::positions_stay`).
 impl<'a> Draft<'a> {
     ghost use Rattle.draft.specs.Drafted.{code_of, room_of, IsSameTable, HasPositions};
 

@@ -2,7 +2,7 @@
 ghost use Rattle.std.specs.Prelude.{◌≡◌, ◌+◌, ◌≤◌, ◌∷◌, length};
 ghost use Rattle.meaning.specs.Words.{is_zero, flag};
 ghost use Rattle.draft.specs.Cells.{cell, dead_cells};
-ghost use Rattle.draft.specs.Drafted.{code_of, room_of, IsSameTable};
+ghost use Rattle.draft.specs.Drafted.{code_of, room_of, IsSameTable, PositionsStay};
 ghost use Rattle.draft.specs.Operations.{place_mark, jump_put, reaches, goto_put, not_put, constant, planned, plan_of, off, constant_put, target_of, labelled_cells, exit_of, left_cells, returned, exit_put, called, replaced};
 
 use crate::Draft;
@@ -256,3 +256,9 @@ impl Draft<'_> {
         }
     }
 }
+
+/// A draft that has a position for each word has one after every operation, since each keeps the table. It does nothing: its contract is the
+/// theorem.
+pub fn positions_stay()
+    ensures { PositionsStay }
+{}
